@@ -1,0 +1,9 @@
+pub mod Choices
+pub mod Rulings
+pub mod Lowest
+pub mod Bits
+pub mod Counting
+pub mod Unnamed
+pub mod Runs
+pub mod Parts
+pub mod Lanes

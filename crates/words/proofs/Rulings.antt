@@ -1,0 +1,62 @@
+-- What a row of rules comes to: allowed exactly where each is, and refused exactly by the first that refuses.
+-- Assumes nothing.
+use Prim.Native.Nat.{ℕ, zero, suc, _<_}
+use mathlib.Core.Path.{_≡_, refl, sym, ap, _∙_}
+use mathlib.Core.Bool.{Bool, true, false}
+use mathlib.Core.List.{List, [], _∷_}
+use native.Mathlib.Omega.{arith}
+use lib.ListN.{length, getD}
+use Rattle.words.specs.Rules.{Ruling, allowed, refused, refuseIf, _orElse_, first}
+
+module _ {A : Type 0} where
+  -- two rules
+  pub passed : {r : Ruling A} (q : Ruling A) → r ≡ allowed → (r orElse q) ≡ q
+  passed q e = ap (λ (r : Ruling A). r orElse q) e
+
+  pub halted : {r : Ruling A} {a : A} (q : Ruling A) → r ≡ refused a → (r orElse q) ≡ refused a
+  halted q e = ap (λ (r : Ruling A). r orElse q) e
+
+  pub both-allowed : (r q : Ruling A) → (r orElse q) ≡ allowed → (r ≡ allowed) × (q ≡ allowed)
+  both-allowed allowed q e = (refl, e)
+  both-allowed (refused a) q e = (e, cc)
+
+  -- one rule
+  pub held-off : (t : Bool) (a : A) → refuseIf t a ≡ allowed → t ≡ false
+  held-off true a e = cc
+  held-off false a e = refl
+
+  pub let-pass : {t : Bool} (a : A) → t ≡ false → refuseIf t a ≡ allowed
+  let-pass a e = ap (λ (t : Bool). refuseIf t a) e
+
+  pub turned-down : {t : Bool} (a : A) → t ≡ true → refuseIf t a ≡ refused a
+  turned-down a e = ap (λ (t : Bool). refuseIf t a) e
+
+  -- any number of rules: rule k refuses so and each before it allows, exactly where that is the answer
+  abbrev pub Decides : List (Ruling A) → ℕ → A → Type 0
+  Decides rs k a = (k < length rs) × (getD rs k allowed ≡ refused a) × ((j : ℕ) → j < k → getD rs j allowed ≡ allowed)
+
+  pub refused-first : (rs : List (Ruling A)) (k : ℕ) (a : A) → Decides rs k a → first rs ≡ refused a
+  refused-first [] k a d = absurd (omega (arith, d .0))
+  refused-first (r ∷ rs) zero a d = halted (first rs) (d .1)
+  refused-first (r ∷ rs) (suc k) a d =
+      passed (first rs) (d .2 0 (omega arith)) ∙ refused-first rs k a (omega (arith, d .0), d .1, λ j h. d .2 (suc j) (omega arith))
+
+  pub first-refused : (rs : List (Ruling A)) (a : A) → first rs ≡ refused a → (k : ℕ) × Decides rs k a
+  first-refused [] a e = let z : _≡_ {A = ℕ} 0 1 = cc in absurd (omega arith)
+  first-refused (allowed ∷ rs) a e =
+      let i = first-refused rs a e in
+      (suc (i .0), (omega (arith, i .1 .0), i .1 .1, later (i .0) (i .1 .2)))
+    where
+      later : (k : ℕ) → ((j : ℕ) → j < k → getD rs j allowed ≡ allowed) → (j : ℕ) → j < suc k → getD (allowed ∷ rs) j allowed ≡ allowed
+      later k h zero l = refl
+      later k h (suc j) l = h j (omega arith)
+  first-refused (refused b ∷ rs) a e = (zero, (omega arith, e, λ j h. absurd (omega arith)))
+
+  pub all-allowed : (rs : List (Ruling A)) → first rs ≡ allowed → (k : ℕ) → getD rs k allowed ≡ allowed
+  all-allowed [] e k = refl
+  all-allowed (r ∷ rs) e zero = both-allowed r (first rs) e .0
+  all-allowed (r ∷ rs) e (suc k) = all-allowed rs (both-allowed r (first rs) e .1) k
+
+  pub allowed-all : (rs : List (Ruling A)) → ((k : ℕ) → k < length rs → getD rs k allowed ≡ allowed) → first rs ≡ allowed
+  allowed-all [] h = refl
+  allowed-all (r ∷ rs) h = passed (first rs) (h 0 (omega arith)) ∙ allowed-all rs (λ k l. h (suc k) (omega arith))

@@ -1,0 +1,117 @@
+-- The laws of a run of values and of a spliced list.
+-- Assumes nothing.
+use mathlib.Core.Path.{_≡_, refl, sym, ap, _∙_, subst}
+use mathlib.Core.List.{List, [], _∷_, _++_, append-assoc, append-nil}
+use Prim.Native.Nat.{ℕ, zero, suc, _+_, _-_, _<_, _≤_, zero-le, suc-le-suc}
+use native.Mathlib.Nat.{add-zero, zero-add, add-suc, suc-add, not-suc-le-zero, le-of-suc-le-suc, add-assoc}
+use native.Mathlib.Numerals.{add-one}
+use native.Mathlib.Omega.{arith}
+use lib.ListN.{length, getD, take, drop, set, length-append, length-take, length-drop, length-set, take-append-drop, List·getD-append}
+use lib.Seq.{length-take-le, drop-cons, set-at, append-snoc, take-at, drop-at, getD-append-add, getD-take, getD-drop, sets, sets-eq, take-append-seam}
+use Rattle.words.specs.Runs.{run, splice}
+
+module _ (f : ℕ → ℕ) where
+  pub length-run : (k n : ℕ) → length (run f k n) ≡ n
+  unfolding run
+  length-run k zero = refl
+  length-run k (suc n) = ap suc (length-run (suc k) n)
+
+  pub getD-run : (k n i : ℕ) → i < n → getD (run f k n) i 0 ≡ f (k + i)
+  unfolding run
+  getD-run k zero i h = absurd (not-suc-le-zero h)
+  getD-run k (suc n) zero h = ap f (sym (add-zero k))
+  getD-run k (suc n) (suc i) h = getD-run (suc k) n i (le-of-suc-le-suc h) ∙ ap f (omega arith)
+
+  -- one more at the end
+  pub run-more : (k n : ℕ) → run f k (suc n) ≡ run f k n ++ (f (k + n) ∷ [])
+  unfolding run
+  run-more k zero = ap (λ (x : ℕ). f x ∷ []) (sym (add-zero k))
+  run-more k (suc n) = ap (λ (r : List ℕ). f k ∷ r) (run-more (suc k) n ∙ ap (λ (x : ℕ). run f (suc k) n ++ (f x ∷ [])) (omega arith))
+
+module _ (l : List ℕ) (at : ℕ) where
+  pub splice-none : l ≡ splice l at []
+  unfolding splice
+  splice-none =
+      sym (ap (λ (k : ℕ). take at l ++ [] ++ drop k l) (add-zero at) ∙ ap (λ (r : List ℕ). r ++ drop at l) (append-nil (take at l)) ∙ take-append-drop at l)
+
+  front : (ws : List ℕ) → at ≤ length l → length (take at l ++ ws) ≡ at + length ws
+  front ws h = length-append (take at l) ws ∙ ap (λ (k : ℕ). k + length ws) (length-take-le at l h)
+
+  -- a store at the end of what is replaced replaces one more
+  pub splice-snoc : (ws : List ℕ) (v : ℕ) → at + length ws < length l
+      → set (splice l at ws) (at + length ws) v ≡ splice l at (ws ++ (v ∷ []))
+  unfolding splice
+  splice-snoc ws v h =
+      let n = at + length ws in
+      let p = take at l ++ ws in
+      let e : suc n ≡ at + length (ws ++ (v ∷ [])) = omega (arith, length-append ws (v ∷ [])) in
+      ap (λ (r : List ℕ). set (p ++ r) n v) (drop-cons l n 0 h)
+      ∙ set-at p (getD l n 0) (drop (suc n) l) v n (front ws (omega arith))
+      ∙ sym (append-snoc p v (drop (suc n) l))
+      ∙ ap (λ (r : List ℕ). r ++ drop (suc n) l) (append-assoc (take at l) ws (v ∷ []))
+      ∙ ap (λ (k : ℕ). take at l ++ (ws ++ (v ∷ [])) ++ drop k l) e
+
+  module _ (ws : List ℕ) (h : at + length ws ≤ length l) where
+    pub splice-length : length (splice l at ws) ≡ length l
+    unfolding splice
+    splice-length =
+        length-append (take at l ++ ws) (drop (at + length ws) l)
+        ∙ omega (arith, front ws (omega arith), length-drop (at + length ws) l)
+
+    -- what is read back is what was put there, word for word
+    pub splice-inside : (i : ℕ) → i < length ws → getD (splice l at ws) (at + i) 0 ≡ getD ws i 0
+    unfolding splice
+    splice-inside i k =
+        List·getD-append (take at l ++ ws) (drop (at + length ws) l) 0 (at + i) (omega (arith, front ws (omega arith)))
+        ∙ ap (λ (x : ℕ). getD (take at l ++ ws) (x + i) 0) (sym (length-take-le at l (omega arith)))
+        ∙ getD-append-add (take at l) ws i 0
+
+    -- every word before and after it is as it was
+    pub splice-before : (i : ℕ) → i < at → getD (splice l at ws) i 0 ≡ getD l i 0
+    unfolding splice
+    splice-before i k =
+        List·getD-append (take at l ++ ws) (drop (at + length ws) l) 0 i (omega (arith, front ws (omega arith)))
+        ∙ List·getD-append (take at l) ws 0 i (omega (arith, length-take-le at l (omega arith)))
+        ∙ getD-take at l i 0 k
+
+    pub splice-after : (i : ℕ) → at + length ws ≤ i → getD (splice l at ws) i 0 ≡ getD l i 0
+    unfolding splice
+    splice-after i k =
+        ap (λ (x : ℕ). getD (take at l ++ ws ++ drop (at + length ws) l) x 0) (omega (arith, front ws (omega arith)))
+        ∙ getD-append-add (take at l ++ ws) (drop (at + length ws) l) (i - (at + length ws)) 0
+        ∙ getD-drop (at + length ws) l (i - (at + length ws)) 0
+        ∙ ap (λ (x : ℕ). getD l x 0) (omega arith)
+
+    sets-splice : splice l at ws ≡ sets l at ws
+    unfolding splice
+    sets-splice = sym (sets-eq ws l at h)
+
+-- a store in front of what is replaced
+pub splice-cons : (l : List ℕ) (at a : ℕ) (ws : List ℕ) → at + 1 + length ws ≤ length l → splice (set l at a) (at + 1) ws ≡ splice l at (a ∷ ws)
+splice-cons l at a ws h =
+    ap (λ (k : ℕ). splice (set l at a) k ws) (add-one at)
+    ∙ sets-splice (set l at a) (suc at) ws (omega (arith, length-set l at a))
+    ∙ sym (sets-splice l at (a ∷ ws) (omega arith))
+
+-- ---- a loop that stores a run of values: f k at place at + k, for each k below n
+
+module _ (f : ℕ → ℕ) (l : List ℕ) (at : ℕ) where
+  pub run-none : l ≡ splice l at (run f 0 0)
+  unfolding run
+  run-none = splice-none l at
+
+  module _ (m : List ℕ) (k n : ℕ) (so : m ≡ splice l at (run f 0 k)) where
+    pub run-turn : (v : ℕ) → k < n → at + n ≤ length l → v ≡ f k → set m (at + k) v ≡ splice l at (run f 0 (k + 1))
+    run-turn v h r e =
+        ap (λ (x : List ℕ). set x (at + k) v) so
+        ∙ ap (λ (x : ℕ). set (splice l at (run f 0 k)) (at + x) v) (sym (length-run f 0 k))
+        ∙ splice-snoc l at (run f 0 k) v (omega (arith, length-run f 0 k))
+        ∙ ap (λ (r : List ℕ). splice l at r) (ap (λ (x : ℕ). run f 0 k ++ (x ∷ [])) (e ∙ ap f (omega arith)) ∙ sym (run-more f 0 k) ∙ ap (run f 0) (sym (add-one k)))
+
+    pub run-done : k ≤ n → n ≤ k → m ≡ splice l at (run f 0 n)
+    run-done h r = so ∙ ap (λ (x : ℕ). splice l at (run f 0 x)) (omega arith)
+
+-- the same at the front of a list
+pub front-turn : (f : ℕ → ℕ) (l m : List ℕ) (k n v : ℕ) → m ≡ splice l 0 (run f 0 k) → k < n → n ≤ length l → v ≡ f k → set m k v ≡ splice l 0 (run f 0 (k + 1))
+front-turn f l m k n v so h r e =
+    ap (λ (x : ℕ). set m x v) (sym (zero-add k)) ∙ run-turn f l 0 m k n so v h (omega arith) e
