@@ -1,4 +1,5 @@
 pub mod Choices
+pub mod Tables
 pub mod Rulings
 pub mod Lowest
 pub mod Bits

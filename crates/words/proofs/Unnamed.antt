@@ -1,20 +1,21 @@
 -- A word is what its kind's mask keeps of it exactly where each bit in no named field is 0: one law for every kind of register.
 -- Assumes nothing.
-use Prim.Native.Nat.{ℕ, zero, suc, _+_, _*_, _/_, _%_, _^_, _≤_, _<_, min}
+use Prim.Native.Nat.{ℕ, zero, suc, _/_, _%_, _^_, _≤_, _<_, min}
 use mathlib.Core.Path.{_≡_, refl, sym, ap, subst, _∙_}
 use mathlib.Core.Bool.{Bool, true, false, not, _&&_, _||_, Bool·beq, and-false}
 use mathlib.Core.List.{List, [], _∷_}
 use mathlib.Core.Logic.{_↔_, ⊎-elim}
-use native.Mathlib.Nat.{div-div-eq-div-mul, mul-comm, pow-suc, div-eq-of-lt, lt-of-lt-of-le, mod-lt}
+use native.Mathlib.Nat.{div-eq-of-lt, lt-of-lt-of-le}
 use native.Mathlib.Omega.{arith}
 use borrow.Author.Tests.{eq-eqb, eqb-false, ltb-true, ltb-false, lt-leb}
 use lib.Arith.{bin-ind}
-use lib.Bits.{bitAnd, and-step, and-shr, and-zero-l}
+use lib.Bits.{bitAnd, and-step, and-zero-l}
 use lib.Dec.{T, eqb, ltb, leb, lit<}
 use lib.Pow.{pow-mono}
 use Rattle.words.specs.Fields.{maskOf, inField, RestZero}
 use Rattle.words.specs.Bits.{bit}
 use Rattle.words.proofs.Bits.{bit-suc, bit-and}
+use Rattle.words.proofs.Choices.{and-left, and-right, T-true}
 
 low-bit : (x y : ℕ) → x < 2 → (y ≡ 0 → x ≡ 0) → min x y ≡ x
 low-bit x zero h f = omega (arith, f refl)
@@ -41,18 +42,6 @@ agrees fs (suc n) = Bool·beq (inField fs n) (eqb (bit (maskOf fs) n) 1) && agre
 unfoldable pub below32 : List (ℕ × ℕ) → Bool
 below32 [] = true
 below32 (f ∷ fs) = ltb (f .0) 32 && below32 fs
-
-T-true : (b : Bool) → T b → b ≡ true
-T-true true t = refl
-T-true false t = absurd t
-
-and-left : (a b : Bool) → T (a && b) → T a
-and-left true b t = tt
-and-left false b t = t
-
-and-right : (a b : Bool) → T (a && b) → T b
-and-right true b t = t
-and-right false b t = absurd t
 
 beq-eq : (a b : Bool) → T (Bool·beq a b) → a ≡ b
 beq-eq true true t = refl
