@@ -32,7 +32,9 @@ impl Sidfc {
         requires { ⌜ (count < 2 ^ 8) × (start .0 < 2 ^ 14) ⌝ }
         ensures { λ r. ⌜ (bits 23 16 (r .word) ≡ count) × (bits 15 2 (r .word) ≡ start .0) ⌝ }
     {
-        Self { word: count * Self::COUNT_AT + start.0 * Self::START_AT }
+        Self {
+            word: count * Self::COUNT_AT + start.0 * Self::START_AT,
+        }
     }
 
     pub fn count(self) -> u32
@@ -80,7 +82,9 @@ impl Xidfc {
         requires { ⌜ (count < 2 ^ 7) × (start .0 < 2 ^ 14) ⌝ }
         ensures { λ r. ⌜ (bits 22 16 (r .word) ≡ count) × (bits 15 2 (r .word) ≡ start .0) ⌝ }
     {
-        Self { word: count * Self::COUNT_AT + start.0 * Self::START_AT }
+        Self {
+            word: count * Self::COUNT_AT + start.0 * Self::START_AT,
+        }
     }
 
     pub fn count(self) -> u32
@@ -134,7 +138,12 @@ impl Rxfc {
         requires { ⌜ (overwrite < 2 ^ 1) × (watermark < 2 ^ 7) × (count < 2 ^ 7) × (start .0 < 2 ^ 14) ⌝ }
         ensures { λ r. ⌜ (bits 31 31 (r .word) ≡ overwrite) × (bits 30 24 (r .word) ≡ watermark) × (bits 22 16 (r .word) ≡ count) × (bits 15 2 (r .word) ≡ start .0) ⌝ }
     {
-        Self { word: overwrite * Self::OVERWRITE_AT + watermark * Self::WATERMARK_AT + count * Self::COUNT_AT + start.0 * Self::START_AT }
+        Self {
+            word: overwrite * Self::OVERWRITE_AT
+                + watermark * Self::WATERMARK_AT
+                + count * Self::COUNT_AT
+                + start.0 * Self::START_AT,
+        }
     }
 
     pub fn overwrite(self) -> u32
@@ -188,7 +197,9 @@ impl Rxbc {
         requires { ⌜ start .0 < 2 ^ 14 ⌝ }
         ensures { λ r. ⌜ bits 15 2 (r .word) ≡ start .0 ⌝ }
     {
-        Self { word: start.0 * Self::START_AT }
+        Self {
+            word: start.0 * Self::START_AT,
+        }
     }
 
     pub fn start(self) -> WordAddress
@@ -230,7 +241,9 @@ impl Rxesc {
         requires { ⌜ (buffers < 2 ^ 3) × (fifo1 < 2 ^ 3) × (fifo0 < 2 ^ 3) ⌝ }
         ensures { λ r. ⌜ (bits 10 8 (r .word) ≡ buffers) × (bits 6 4 (r .word) ≡ fifo1) × (bits 2 0 (r .word) ≡ fifo0) ⌝ }
     {
-        Self { word: buffers * Self::BUFFERS_AT + fifo1 * Self::FIFO1_AT + fifo0 * Self::FIFO0_AT }
+        Self {
+            word: buffers * Self::BUFFERS_AT + fifo1 * Self::FIFO1_AT + fifo0 * Self::FIFO0_AT,
+        }
     }
 
     pub fn buffers(self) -> u32
@@ -288,7 +301,11 @@ impl Txefc {
         requires { ⌜ (watermark < 2 ^ 6) × (count < 2 ^ 6) × (start .0 < 2 ^ 14) ⌝ }
         ensures { λ r. ⌜ (bits 29 24 (r .word) ≡ watermark) × (bits 21 16 (r .word) ≡ count) × (bits 15 2 (r .word) ≡ start .0) ⌝ }
     {
-        Self { word: watermark * Self::WATERMARK_AT + count * Self::COUNT_AT + start.0 * Self::START_AT }
+        Self {
+            word: watermark * Self::WATERMARK_AT
+                + count * Self::COUNT_AT
+                + start.0 * Self::START_AT,
+        }
     }
 
     pub fn watermark(self) -> u32
@@ -348,7 +365,12 @@ impl Txbc {
         requires { ⌜ (queue < 2 ^ 1) × (shared < 2 ^ 6) × (dedicated < 2 ^ 6) × (start .0 < 2 ^ 14) ⌝ }
         ensures { λ r. ⌜ (bits 30 30 (r .word) ≡ queue) × (bits 29 24 (r .word) ≡ shared) × (bits 21 16 (r .word) ≡ dedicated) × (bits 15 2 (r .word) ≡ start .0) ⌝ }
     {
-        Self { word: queue * Self::QUEUE_AT + shared * Self::SHARED_AT + dedicated * Self::DEDICATED_AT + start.0 * Self::START_AT }
+        Self {
+            word: queue * Self::QUEUE_AT
+                + shared * Self::SHARED_AT
+                + dedicated * Self::DEDICATED_AT
+                + start.0 * Self::START_AT,
+        }
     }
 
     pub fn queue(self) -> u32
@@ -400,7 +422,9 @@ impl Txesc {
         requires { ⌜ size < 2 ^ 3 ⌝ }
         ensures { λ r. ⌜ bits 2 0 (r .word) ≡ size ⌝ }
     {
-        Self { word: size * Self::SIZE_AT }
+        Self {
+            word: size * Self::SIZE_AT,
+        }
     }
 
     pub fn size(self) -> u32
@@ -446,7 +470,12 @@ impl Gfc {
         requires { ⌜ (anfs < 2 ^ 2) × (anfe < 2 ^ 2) × (rrfs < 2 ^ 1) × (rrfe < 2 ^ 1) ⌝ }
         ensures { λ r. ⌜ (bits 5 4 (r .word) ≡ anfs) × (bits 3 2 (r .word) ≡ anfe) × (bits 1 1 (r .word) ≡ rrfs) × (bits 0 0 (r .word) ≡ rrfe) ⌝ }
     {
-        Self { word: anfs * Self::ANFS_AT + anfe * Self::ANFE_AT + rrfs * Self::RRFS_AT + rrfe * Self::RRFE_AT }
+        Self {
+            word: anfs * Self::ANFS_AT
+                + anfe * Self::ANFE_AT
+                + rrfs * Self::RRFS_AT
+                + rrfe * Self::RRFE_AT,
+        }
     }
 
     pub fn anfs(self) -> u32
@@ -498,7 +527,9 @@ impl Xidam {
         requires { ⌜ mask < 2 ^ 29 ⌝ }
         ensures { λ r. ⌜ bits 28 0 (r .word) ≡ mask ⌝ }
     {
-        Self { word: mask * Self::MASK_AT }
+        Self {
+            word: mask * Self::MASK_AT,
+        }
     }
 
     pub fn mask(self) -> u32

@@ -97,6 +97,17 @@ module _ (p : ℕ → Bool) where
           cc
       go false f = omega (arith, ltb-false (leastFrom p i n) (i + n) f, least-within i n)
 
+-- a loop that looks at i, i + 1, .. below n: what it looks for is the lowest of those that are left
+module _ (p : ℕ → Bool) (whole i n : ℕ) (left : whole ≡ leastFrom p i (n - i)) where
+  pub look-found : i < n → p i ≡ true → i ≡ whole
+  look-found h e = sym (left ∙ least-here p i (n - i) (omega arith) e)
+
+  pub look-on : i < n → p i ≡ false → whole ≡ leastFrom p (i + 1) (n - (i + 1))
+  look-on h e = let m : n - i - 1 ≡ n - (i + 1) = omega arith in left ∙ least-next p i (n - i) (omega arith) e ∙ ap (leastFrom p (i + 1)) m
+
+  pub look-done : i ≤ n → n ≤ i → n ≡ whole
+  look-done h l = let e : n ≡ i = omega arith in e ∙ sym (left ∙ least-none p i (n - i) (omega arith))
+
 -- two tests that agree have the same lowest number
 pub least-same : (p q : ℕ → Bool) (i n : ℕ) → ((k : ℕ) → i ≤ k → k < i + n → p k ≡ q k) → leastFrom p i n ≡ leastFrom q i n
 unfolding leastFrom

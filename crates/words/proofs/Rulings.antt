@@ -25,6 +25,10 @@ module _ {A : Type 0} where
   held-off true a e = cc
   held-off false a e = refl
 
+  pub refused-by : (t : Bool) (a b : A) → refuseIf t a ≡ refused b → (t ≡ true) × (a ≡ b)
+  refused-by true a b e = (refl, cc)
+  refused-by false a b e = (cc, cc)
+
   pub let-pass : {t : Bool} (a : A) → t ≡ false → refuseIf t a ≡ allowed
   let-pass a e = ap (λ (t : Bool). refuseIf t a) e
 

@@ -1,5 +1,5 @@
 -- Rules in the order of their numbers: the first that refuses decides, so the lowest number is given.
-use mathlib.Core.Bool.{Bool}
+use mathlib.Core.Bool.{Bool, true, false}
 use mathlib.Core.List.{List, [], _∷_}
 use Rattle.words.specs.Choice.{pick}
 
@@ -12,6 +12,10 @@ pub data Ruling (A : Type 0) : Type 0 where
 -- refused so where the test holds
 abbrev pub refuseIf : {A : Type 0} → Bool → A → Ruling A
 refuseIf t a = pick t (refused a) allowed
+
+abbrev pub isAllowed : {A : Type 0} → Ruling A → Bool
+isAllowed allowed = true
+isAllowed (refused a) = false
 
 -- the first of two that refuses
 abbrev pub _orElse_ : {A : Type 0} → Ruling A → Ruling A → Ruling A

@@ -1,0 +1,6 @@
+pub mod Lengths
+pub mod Forms
+pub mod Ranks
+pub mod Order
+pub mod BusOrder
+pub mod Stars

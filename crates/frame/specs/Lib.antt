@@ -1,0 +1,6 @@
+pub mod Length
+pub mod Identifier
+pub mod Malformed
+pub mod Rank
+pub mod Arbitration
+pub mod Sent

@@ -1,0 +1,4 @@
+pub mod Circle
+pub mod Holding
+pub mod Fitness
+pub mod Moves
