@@ -6,7 +6,7 @@ use mathlib.Core.Bool.{Bool, true, false}
 use mathlib.Core.List.{List, [], _∷_}
 use native.Mathlib.Omega.{arith}
 use lib.ListN.{length, getD}
-use Rattle.words.specs.Rules.{Ruling, allowed, refused, refuseIf, _orElse_, first}
+use Rattle.words.specs.Rules.{Ruling, allowed, refused, isAllowed, refuseIf, _orElse_, first, settle}
 
 module _ {A : Type 0} where
   -- two rules
@@ -19,6 +19,20 @@ module _ {A : Type 0} where
   pub both-allowed : (r q : Ruling A) → (r orElse q) ≡ allowed → (r ≡ allowed) × (q ≡ allowed)
   both-allowed allowed q e = (refl, e)
   both-allowed (refused a) q e = (e, cc)
+
+  -- a ruling as it is tested
+  pub is-allowed : (r : Ruling A) → isAllowed r ≡ true → r ≡ allowed
+  is-allowed allowed e = refl
+  is-allowed (refused a) e = cc
+
+  pub settle-allowed : {B : Type 0} (r : Ruling A) (b : B) (f : A → B) → isAllowed r ≡ true → settle r b f ≡ b
+  settle-allowed allowed b f e = refl
+  settle-allowed (refused a) b f e = cc
+
+  -- where it is refused, and what is made of a refusal does not look at it
+  pub settle-refused : {B : Type 0} (r : Ruling A) (b c : B) → isAllowed r ≡ false → settle r b (λ a. c) ≡ c
+  settle-refused allowed b c e = cc
+  settle-refused (refused a) b c e = refl
 
   -- one rule
   pub held-off : (t : Bool) (a : A) → refuseIf t a ≡ allowed → t ≡ false

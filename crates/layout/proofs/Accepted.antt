@@ -1,0 +1,202 @@
+-- A start is accepted exactly where its layout is legal.
+-- Assumes nothing.
+use Prim.Native.Nat.{ℕ, zero, suc, _+_, _-_, _≤_, _<_, min, max}
+use mathlib.Core.Path.{_≡_, refl, sym, ap, ap₂, _∙_}
+use mathlib.Core.Bool.{Bool, true, false, not, _&&_, _||_}
+use mathlib.Core.List.{List, [], _∷_}
+use mathlib.Core.Logic.{⊎-elim}
+use borrow.Author.Tests.{eqb-true, eq-eqb, ltb-true, ltb-false, le-ltb, not-false}
+use native.Mathlib.Omega.{arith}
+use lib.Dec.{eqb, ltb}
+use lib.ListN.{getD}
+use Rattle.words.specs.Fields.{bits, onlyNamed}
+use Rattle.words.specs.Least.{leastFrom}
+use Rattle.words.specs.Rules.{allowed, first}
+use Rattle.words.proofs.Choices.{and-both, or-neither}
+use Rattle.words.proofs.Lowest.{least-below, least-absent}
+use Rattle.words.proofs.Rulings.{all-allowed, allowed-all, held-off, let-pass}
+use Rattle.words.proofs.Unnamed.{unnamed, agrees, below32}
+use Rattle.registers.specs.Kinds.{sidfc, xidfc, rxfc, rxbc, rxesc, txefc, txbc, txesc, gfc, xidam}
+use Rattle.registers.specs.Given.{allNamed}
+use Rattle.registers.specs.declared.Registers.{Registers}
+use Rattle.layout.specs.Sections.{none, sectionsOf}
+use Rattle.layout.specs.Verdict.{Refusal, names, over, firstWith, countRule, txRule, end, past, endRule, shares, partner, hasPartner, pairRule, rules, verdict}
+use Rattle.layout.specs.Legal.{Named, Counted, Has, Legal}
+use Rattle.layout.specs.Promises.{AcceptedIsLegal}
+use Rattle.layout.specs.declared.sections.Section.{Section}
+use Rattle.layout.proofs.Table.{Within, has-within, within-has, empty-or-some}
+
+-- a search of the seven sections that refuses nothing has found no fault
+pub none-with : (n : ℕ) (fault : ℕ → Bool) → firstWith n fault ≡ allowed → (i : ℕ) → i < 7 → fault i ≡ false
+none-with n fault e i h = least-below fault 0 7 i (omega arith) (omega (arith, ltb-false (leastFrom fault 0 7) 7 (held-off _ (names n (leastFrom fault 0 7) 7) e)))
+
+with-none : (n : ℕ) (fault : ℕ → Bool) → ((i : ℕ) → i < 7 → fault i ≡ false) → firstWith n fault ≡ allowed
+with-none n fault h =
+    let-pass (names n (leastFrom fault 0 7) 7) (le-ltb (leastFrom fault 0 7) 7 (omega (arith, least-absent fault 0 7 (λ j a b. h j (omega arith)))))
+
+-- 11
+words-of : (a b c d e f g h i j k : Bool) → (a && b && c && d && e && f && g && h && i && j && k) ≡ true
+    → (a ≡ true) × (b ≡ true) × (c ≡ true) × (d ≡ true) × (e ≡ true) × (f ≡ true) × (g ≡ true) × (h ≡ true) × (i ≡ true) × (j ≡ true) × (k ≡ true)
+words-of a b c d e f g h i j k p =
+    let q10 = and-both (a && b && c && d && e && f && g && h && i && j) k p in
+    let q9 = and-both (a && b && c && d && e && f && g && h && i) j (q10 .0) in
+    let q8 = and-both (a && b && c && d && e && f && g && h) i (q9 .0) in
+    let q7 = and-both (a && b && c && d && e && f && g) h (q8 .0) in
+    let q6 = and-both (a && b && c && d && e && f) g (q7 .0) in
+    let q5 = and-both (a && b && c && d && e) f (q6 .0) in
+    let q4 = and-both (a && b && c && d) e (q5 .0) in
+    let q3 = and-both (a && b && c) d (q4 .0) in
+    let q2 = and-both (a && b) c (q3 .0) in
+    let q1 = and-both a b (q2 .0) in
+    (q1 .0, q1 .1, q2 .1, q3 .1, q4 .1, q5 .1, q6 .1, q7 .1, q8 .1, q9 .1, q10 .1)
+
+module _ (r : Registers) where
+  named : allNamed r ≡ true → Named r
+  unfolding agrees below32
+  named e =
+      let w = words-of (onlyNamed sidfc (r .sidfc .word)) (onlyNamed xidfc (r .xidfc .word)) (onlyNamed rxfc (r .rxf0c .word)) (onlyNamed rxfc (r .rxf1c .word)) (onlyNamed rxbc (r .rxbc .word)) (onlyNamed rxesc (r .rxesc .word)) (onlyNamed txefc (r .txefc .word)) (onlyNamed txbc (r .txbc .word)) (onlyNamed txesc (r .txesc .word)) (onlyNamed gfc (r .gfc .word)) (onlyNamed xidam (r .xidam .word)) e in
+      record {
+        sidfc = unnamed sidfc tt tt tt _ .0 (eqb-true _ _ (w .0));
+        xidfc = unnamed xidfc tt tt tt _ .0 (eqb-true _ _ (w .1));
+        rxf0c = unnamed rxfc tt tt tt _ .0 (eqb-true _ _ (w .2));
+        rxf1c = unnamed rxfc tt tt tt _ .0 (eqb-true _ _ (w .3));
+        rxbc = unnamed rxbc tt tt tt _ .0 (eqb-true _ _ (w .4));
+        rxesc = unnamed rxesc tt tt tt _ .0 (eqb-true _ _ (w .5));
+        txefc = unnamed txefc tt tt tt _ .0 (eqb-true _ _ (w .6));
+        txbc = unnamed txbc tt tt tt _ .0 (eqb-true _ _ (w .7));
+        txesc = unnamed txesc tt tt tt _ .0 (eqb-true _ _ (w .8));
+        gfc = unnamed gfc tt tt tt _ .0 (eqb-true _ _ (w .9));
+        xidam = unnamed xidam tt tt tt _ .0 (eqb-true _ _ (w .10));
+      }
+
+  name : Named r → allNamed r ≡ true
+  unfolding agrees below32
+  name n =
+      ap₂ _&&_ (ap₂ _&&_ (ap₂ _&&_ (ap₂ _&&_ (ap₂ _&&_ (ap₂ _&&_ (ap₂ _&&_ (ap₂ _&&_ (ap₂ _&&_ (ap₂ _&&_
+      (eq-eqb _ _ (unnamed sidfc tt tt tt _ .1 (n .sidfc)))
+      (eq-eqb _ _ (unnamed xidfc tt tt tt _ .1 (n .xidfc))))
+      (eq-eqb _ _ (unnamed rxfc tt tt tt _ .1 (n .rxf0c))))
+      (eq-eqb _ _ (unnamed rxfc tt tt tt _ .1 (n .rxf1c))))
+      (eq-eqb _ _ (unnamed rxbc tt tt tt _ .1 (n .rxbc))))
+      (eq-eqb _ _ (unnamed rxesc tt tt tt _ .1 (n .rxesc))))
+      (eq-eqb _ _ (unnamed txefc tt tt tt _ .1 (n .txefc))))
+      (eq-eqb _ _ (unnamed txbc tt tt tt _ .1 (n .txbc))))
+      (eq-eqb _ _ (unnamed txesc tt tt tt _ .1 (n .txesc))))
+      (eq-eqb _ _ (unnamed gfc tt tt tt _ .1 (n .gfc))))
+      (eq-eqb _ _ (unnamed xidam tt tt tt _ .1 (n .xidam)))
+
+  -- 12 and 13
+  counted : countRule r ≡ allowed → txRule r ≡ allowed → Counted r
+  counted e f =
+      let o = none-with 12 (over r) e in
+      let t = or-neither (ltb 32 (bits 21 16 (r .txbc .word))) (ltb 32 (bits 29 24 (r .txbc .word))) (o 6 (omega arith)) in
+      record {
+        filters11 = ltb-false _ _ (o 0 (omega arith));
+        filters29 = ltb-false _ _ (o 1 (omega arith));
+        fifo0 = ltb-false _ _ (o 2 (omega arith));
+        fifo1 = ltb-false _ _ (o 3 (omega arith));
+        buffers = ltb-false _ _ (o 4 (omega arith));
+        events = ltb-false _ _ (o 5 (omega arith));
+        dedicated = ltb-false _ _ (t .0);
+        shared = ltb-false _ _ (t .1);
+        together = ltb-false _ _ (held-off _ (names 13 7 7) f);
+      }
+
+  within-most : Counted r → (i : ℕ) → i < 7 → over r i ≡ false
+  within-most h zero l = le-ltb _ _ (h .filters11)
+  within-most h (suc zero) l = le-ltb _ _ (h .filters29)
+  within-most h (suc (suc zero)) l = le-ltb _ _ (h .fifo0)
+  within-most h (suc (suc (suc zero))) l = le-ltb _ _ (h .fifo1)
+  within-most h (suc (suc (suc (suc zero)))) l = le-ltb _ _ (h .buffers)
+  within-most h (suc (suc (suc (suc (suc zero))))) l = le-ltb _ _ (h .events)
+  within-most h (suc (suc (suc (suc (suc (suc zero)))))) l = ap₂ _||_ (le-ltb _ _ (h .dedicated)) (le-ltb _ _ (h .shared))
+  within-most h (suc (suc (suc (suc (suc (suc (suc i))))))) l = absurd (omega arith)
+
+-- 15: two sections share a word where some word is in both
+pub apart-words : (a b : Section) → shares a b ≡ false → (k : ℕ) → Within a k → Within b k → ⊥
+apart-words a b e k p q = omega (arith, ltb-false (max (a .start .0) (b .start .0)) (min (end a) (end b)) e)
+
+pub shared-word : (a b : Section) → shares a b ≡ true → (k : ℕ) × Within a k × Within b k
+shared-word a b e =
+    let l = ltb-true (max (a .start .0) (b .start .0)) (min (end a) (end b)) e in
+    (max (a .start .0) (b .start .0), record { from = omega arith; below = omega arith }, record { from = omega arith; below = omega arith })
+
+words-apart : (a b : Section) → ((k : ℕ) → Within a k → Within b k → ⊥) → shares a b ≡ false
+words-apart a b h = go (shares a b) refl
+  where
+    go : (t : Bool) → shares a b ≡ t → t ≡ false
+    go true e = let w = shared-word a b e in absurd (h (w .0) (w .1) (w .2))
+    go false e = refl
+
+module _ (ss : List Section) where
+  pub no-partner : (i : ℕ) → hasPartner ss i ≡ false → (j : ℕ) → i < j → j < 7 → shares (getD ss i none) (getD ss j none) ≡ false
+  unfolding partner
+  no-partner i e j h l = least-below (λ k. shares (getD ss i none) (getD ss k none)) (i + 1) (7 - (i + 1)) j (omega arith) (omega (arith, ltb-false (partner ss i) 7 e))
+
+  partnerless : (i : ℕ) → i < 7 → ((j : ℕ) → i < j → j < 7 → shares (getD ss i none) (getD ss j none) ≡ false) → hasPartner ss i ≡ false
+  unfolding partner
+  partnerless i h f =
+      le-ltb (partner ss i) 7 (omega (arith, least-absent (λ k. shares (getD ss i none) (getD ss k none)) (i + 1) (7 - (i + 1)) (λ j a b. f j (omega arith) (omega arith))))
+
+module _ (r : Registers) (words : ℕ) where
+  inside : endRule words (sectionsOf r) ≡ allowed → (i k : ℕ) → i < 7 → Has r i k → k < words
+  inside e i k h w =
+      let v = has-within r i k w in
+      omega (arith, v .below, ltb-false words (end (getD (sectionsOf r) i none)) (none-with 14 (past words (sectionsOf r)) e i h))
+
+  put-inside : ((i k : ℕ) → i < 7 → Has r i k → k < words) → (i : ℕ) → i < 7 → past words (sectionsOf r) i ≡ false
+  put-inside f i h =
+      le-ltb words (end (getD (sectionsOf r) i none)) (⊎-elim (λ e. omega (arith, ap end e)) (λ l. omega (arith, last l)) (empty-or-some r i h))
+    where
+      last : 0 < getD (sectionsOf r) i none .words → end (getD (sectionsOf r) i none) - 1 < words
+      last l = f i (end (getD (sectionsOf r) i none) - 1) h (within-has r i (end (getD (sectionsOf r) i none) - 1) (record { from = omega arith; below = omega arith }))
+
+  apart : pairRule (sectionsOf r) ≡ allowed → (i j k : ℕ) → i < j → j < 7 → Has r i k → Has r j k → ⊥
+  apart e i j k h l v w =
+      apart-words (getD (sectionsOf r) i none) (getD (sectionsOf r) j none)
+      (no-partner (sectionsOf r) i
+      (least-below (hasPartner (sectionsOf r)) 0 7 i (omega arith) (omega (arith, ltb-false (leastFrom (hasPartner (sectionsOf r)) 0 7) 7 (held-off _ _ e)))) j h l) k
+      (has-within r i k v)
+      (has-within r j k w)
+
+  put-apart : ((i j k : ℕ) → i < j → j < 7 → Has r i k → Has r j k → ⊥) → pairRule (sectionsOf r) ≡ allowed
+  put-apart f =
+      let-pass _
+      (le-ltb (leastFrom (hasPartner (sectionsOf r)) 0 7) 7
+      (omega (
+        arith,
+        least-absent (hasPartner (sectionsOf r)) 0 7
+            (λ i a b. partnerless (sectionsOf r) i (omega arith)
+            (λ j h l. words-apart _ _ (λ k v w. f i j k h l (within-has r i k v) (within-has r j k w)))),
+      )))
+
+module _ (given : ℕ) (r : Registers) (words : ℕ) where
+  pub verdict-rules : verdict given r words ≡ first (rules given r words)
+  unfolding verdict
+  verdict-rules = refl
+
+  to-legal : verdict given r words ≡ allowed → Legal given r words
+  to-legal e =
+      let each = all-allowed (rules given r words) (sym verdict-rules ∙ e) in
+      record {
+        memory = eqb-true words given (not-false (eqb words given) (held-off _ (names 10 7 7) (each 0)));
+        named = named r (not-false (allNamed r) (held-off _ (names 11 7 7) (each 1)));
+        counted = counted r (each 2) (each 3);
+        inside = inside r words (each 4);
+        apart = apart r words (each 5);
+      }
+
+  from-legal : Legal given r words → verdict given r words ≡ allowed
+  from-legal h = verdict-rules ∙ allowed-all (rules given r words) each
+    where
+      each : (k : ℕ) → k < 6 → getD (rules given r words) k allowed ≡ allowed
+      each zero l = let-pass (names 10 7 7) (ap not (eq-eqb words given (h .memory)))
+      each (suc zero) l = let-pass (names 11 7 7) (ap not (name r (h .named)))
+      each (suc (suc zero)) l = with-none 12 (over r) (within-most r (h .counted))
+      each (suc (suc (suc zero))) l = let-pass (names 13 7 7) (le-ltb 32 _ (h .counted .together))
+      each (suc (suc (suc (suc zero)))) l = with-none 14 (past words (sectionsOf r)) (put-inside r words (h .inside))
+      each (suc (suc (suc (suc (suc zero))))) l = put-apart r words (h .apart)
+      each (suc (suc (suc (suc (suc (suc k)))))) l = absurd (omega arith)
+
+pub accepted-is-legal : AcceptedIsLegal
+accepted-is-legal given r words = (to-legal given r words, from-legal given r words)

@@ -1,0 +1,8 @@
+pub mod Searches
+pub mod Says
+pub mod Table
+pub mod Accepted
+pub mod Names
+pub mod Judged
+pub mod OneAnswer
+pub mod Stars

@@ -1,0 +1,5 @@
+pub mod Sections
+pub mod Verdict
+pub mod Legal
+pub mod Promises
+pub mod Stars

@@ -1,0 +1,94 @@
+-- Which layouts a start refuses: numbers 10 to 15, with the two sections that each names (7 for none).
+use Prim.Native.Nat.{ℕ, _+_, _-_, min, max}
+use mathlib.Core.Bool.{Bool, false, not}
+use mathlib.Core.List.{List, [], _∷_}
+use lib.Dec.{eqb, ltb}
+use lib.ListN.{getD, replicate}
+use Rattle.words.specs.Fields.{bits}
+use Rattle.words.specs.Least.{leastFrom}
+use Rattle.words.specs.Rules.{Ruling, allowed, refused, refuseIf, first, settle}
+use Rattle.registers.specs.Given.{allNamed}
+use Rattle.registers.specs.declared.Registers.{Registers}
+use Rattle.layout.specs.Sections.{none, overMost, sectionsOf}
+use Rattle.layout.specs.declared.sections.Section.{Section}
+use Rattle.layout.specs.declared.check.Verdict.{Verdict}
+use Rattle.layout.specs.declared.check.Verdict.the-variants.{Accepted, WrongMemory, UnnamedBit, CountOver, TxOver, PastMemory, Overlap}
+
+-- what a refused start says
+pub record Refusal : Type 0 where
+  pub number : ℕ
+  pub section : ℕ
+  pub other : ℕ
+
+abbrev pub names : ℕ → ℕ → ℕ → Refusal
+names n a b = record { number = n; section = a; other = b }
+
+-- what each answer of the code says in the paper's numbers
+abbrev pub meaning : Verdict → Ruling Refusal
+meaning Accepted = allowed
+meaning WrongMemory = refused (names 10 7 7)
+meaning UnnamedBit = refused (names 11 7 7)
+meaning (CountOver i) = refused (names 12 i 7)
+meaning TxOver = refused (names 13 7 7)
+meaning (PastMemory i) = refused (names 14 i 7)
+meaning (Overlap i j) = refused (names 15 i j)
+
+-- the first of the seven sections that has a fault is named, if one has
+abbrev pub firstWith : ℕ → (ℕ → Bool) → Ruling Refusal
+firstWith n fault = refuseIf (ltb (leastFrom fault 0 7) 7) (names n (leastFrom fault 0 7) 7)
+
+-- 10: the memory isn't of the given length
+abbrev pub memoryRule : ℕ → ℕ → Ruling Refusal
+memoryRule given words = refuseIf (not (eqb words given)) (names 10 7 7)
+
+-- 11: a bit that must be 0 is set
+abbrev pub bitsRule : Registers → Ruling Refusal
+bitsRule r = refuseIf (not (allNamed r)) (names 11 7 7)
+
+-- 12: a count is over its most; names the first section
+abbrev pub over : Registers → ℕ → Bool
+over r i = getD (overMost r) i false
+
+abbrev pub countRule : Registers → Ruling Refusal
+countRule r = firstWith 12 (over r)
+
+-- 13: dedicated + shared over 32
+abbrev pub txRule : Registers → Ruling Refusal
+txRule r = refuseIf (ltb 32 (bits 21 16 (r .txbc .word) + bits 29 24 (r .txbc .word))) (names 13 7 7)
+
+-- 14: a section ends past the memory; names the first
+abbrev pub end : Section → ℕ
+end s = s .start .0 + s .words
+
+abbrev pub past : ℕ → List Section → ℕ → Bool
+past words ss i = ltb words (end (getD ss i none))
+
+abbrev pub endRule : ℕ → List Section → Ruling Refusal
+endRule words ss = firstWith 14 (past words ss)
+
+-- 15: two sections share a word: the later start is before the earlier end
+abbrev pub shares : Section → Section → Bool
+shares a b = ltb (max (a .start .0) (b .start .0)) (min (end a) (end b))
+
+-- the first section after section i that shares a word with it, 7 where none does
+unfoldable pub partner : List Section → ℕ → ℕ
+partner ss i = leastFrom (λ j. shares (getD ss i none) (getD ss j none)) (i + 1) (7 - (i + 1))
+
+abbrev pub hasPartner : List Section → ℕ → Bool
+hasPartner ss i = ltb (partner ss i) 7
+
+-- pairs go by the lower section, then the higher
+abbrev pub pairRule : List Section → Ruling Refusal
+pairRule ss = refuseIf (ltb (leastFrom (hasPartner ss) 0 7) 7) (names 15 (leastFrom (hasPartner ss) 0 7) (partner ss (leastFrom (hasPartner ss) 0 7)))
+
+-- the rules in the order of their numbers, for a memory of so many words where one of the given length is wanted
+abbrev pub rules : ℕ → Registers → ℕ → List (Ruling Refusal)
+rules given r words = memoryRule given words ∷ bitsRule r ∷ countRule r ∷ txRule r ∷ endRule words (sectionsOf r) ∷ pairRule (sectionsOf r) ∷ []
+
+-- the lowest number that applies
+unfoldable pub verdict : ℕ → Registers → ℕ → Ruling Refusal
+verdict given r words = first (rules given r words)
+
+-- the sections that a start reports: those of the registers where it accepts
+abbrev pub reported : Ruling Refusal → Registers → List Section
+reported v r = settle v (sectionsOf r) (λ n. replicate 7 none)

@@ -1,0 +1,155 @@
+// Which layouts a start refuses: numbers 10 to 15, the lowest first.
+use crate::sections::Section;
+use crate::sections::none;
+use crate::sections::over_most;
+use crate::sections::sections;
+use registers::Registers;
+use registers::kinds::Txbc;
+ghost use mathlib.Core.Path.{_≡_};
+ghost use mathlib.Core.Bool.{false};
+ghost use Prim.Native.Nat.{_≤_, min, max};
+ghost use lib.ListN.{getD};
+ghost use Rattle.words.specs.Least.{leastFrom};
+ghost use Rattle.words.specs.Rules.{isAllowed};
+ghost use Rattle.layout.specs.Sections.{memoryWords};
+ghost use Rattle.layout.specs.Verdict.{meaning, end, past, shares, pairRule, verdict, reported};
+
+// The memory's length in words.
+pub const MEMORY_WORDS: usize = 2560;
+
+// Sections are named by their numbers, 0 to 6.
+pub enum Verdict {
+    Accepted,
+    WrongMemory,
+    UnnamedBit,
+    CountOver(usize),
+    TxOver,
+    PastMemory(usize),
+    Overlap(usize, usize),
+}
+
+impl Verdict {
+    pub fn accepted(self) -> bool
+        ensures { λ r. ⌜ r ≡ isAllowed (meaning self) ⌝ }
+    {
+        if let Verdict::Accepted = self {
+            true
+        } else {
+            false
+        }
+    }
+}
+
+// What a start has to say of a layout: the verdict, and the seven sections where it accepts.
+pub struct Report {
+    pub verdict: Verdict,
+    pub sections: [Section; 7],
+}
+
+// The first that is true, or 7.
+fn first_true(flags: [bool; 7]) -> usize
+    ensures { λ r. ⌜ r ≡ leastFrom (λ i. getD flags i false) 0 7 ⌝ }
+{
+    for i in 0..7 {
+        if flags[i] {
+            return i;
+        }
+    }
+    7
+}
+
+fn end_of(s: Section) -> u64
+    ensures { λ r. ⌜ r ≡ end s ⌝ }
+{
+    s.start.0 as u64 + s.words as u64
+}
+
+fn higher(a: u64, b: u64) -> u64
+    ensures { λ r. ⌜ r ≡ max a b ⌝ }
+{
+    if a < b { b } else { a }
+}
+
+fn lower(a: u64, b: u64) -> u64
+    ensures { λ r. ⌜ r ≡ min a b ⌝ }
+{
+    if a < b { a } else { b }
+}
+
+// Whether two sections have a word in common.
+fn share(a: Section, b: Section) -> bool
+    ensures { λ r. ⌜ r ≡ shares a b ⌝ }
+{
+    higher(a.start.0 as u64, b.start.0 as u64) < lower(end_of(a), end_of(b))
+}
+
+// The first section that ends past a memory of so many words, or 7.
+fn first_past(s: [Section; 7], words: u64) -> usize
+    ensures { λ r. ⌜ r ≡ leastFrom (past words s) 0 7 ⌝ }
+{
+    for i in 0..7 {
+        if words < end_of(s[i]) {
+            return i;
+        }
+    }
+    7
+}
+
+// The first pair of sections that share a word.
+fn check_pairs(s: [Section; 7]) -> Verdict
+    ensures { λ r. ⌜ meaning r ≡ pairRule s ⌝ }
+{
+    let mut found = Verdict::Accepted;
+    'pairs: for i in 0..7 {
+        let a = s[i];
+        for j in i + 1..7 {
+            if share(a, s[j]) {
+                found = Verdict::Overlap(i, j);
+                break 'pairs;
+            }
+        }
+    }
+    found
+}
+
+pub fn check(regs: Registers, len: usize) -> Verdict
+    ensures { λ r. ⌜ meaning r ≡ verdict memoryWords regs len ⌝ }
+{
+    if len != MEMORY_WORDS {
+        return Verdict::WrongMemory;
+    }
+    if !regs.only_named() {
+        return Verdict::UnnamedBit;
+    }
+    let over = first_true(over_most(regs));
+    if over < 7 {
+        return Verdict::CountOver(over);
+    }
+    if Txbc::MOST < regs.txbc.dedicated() + regs.txbc.shared() {
+        return Verdict::TxOver;
+    }
+    let s = sections(regs);
+    let past = first_past(s, len as u64);
+    if past < 7 {
+        return Verdict::PastMemory(past);
+    }
+    check_pairs(s)
+}
+
+// The verdict, with the sections where it accepts.
+pub fn judge(regs: Registers, len: usize) -> Report
+    ensures { λ r. ⌜ meaning (r .verdict) ≡ verdict memoryWords regs len ⌝ }
+    ensures { λ r. ⌜ r .sections ≡ reported (verdict memoryWords regs len) regs ⌝ }
+{
+    let verdict = check(regs, len);
+    if verdict.accepted() {
+        return Report {
+            verdict,
+            sections: sections(regs),
+        };
+    }
+    Report {
+        verdict,
+        sections: [none(); 7],
+    }
+}
