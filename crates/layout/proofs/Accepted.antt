@@ -4,10 +4,10 @@ use Prim.Native.Nat.{ℕ, zero, suc, _+_, _-_, _≤_, _<_, min, max}
 use mathlib.Core.Path.{_≡_, refl, sym, ap, ap₂, _∙_}
 use mathlib.Core.Bool.{Bool, true, false, not, _&&_, _||_}
 use mathlib.Core.List.{List, [], _∷_}
-use mathlib.Core.Logic.{⊎-elim}
-use borrow.Author.Tests.{eqb-true, eq-eqb, ltb-true, ltb-false, le-ltb, not-false}
+use mathlib.Core.Logic.{_⊎_, inl, inr, ⊎-elim}
+use borrow.Author.Tests.{eqb-true, eq-eqb, ltb-true, ltb-false, le-ltb, leb-true, leb-false, not-false}
 use native.Mathlib.Omega.{arith}
-use lib.Dec.{eqb, ltb}
+use lib.Dec.{eqb, ltb, leb}
 use lib.ListN.{getD}
 use Rattle.words.specs.Fields.{bits, onlyNamed}
 use Rattle.words.specs.Least.{leastFrom}
@@ -200,3 +200,23 @@ module _ (given : ℕ) (r : Registers) (words : ℕ) where
 
 pub accepted-is-legal : AcceptedIsLegal
 accepted-is-legal given r words = (to-legal given r words, from-legal given r words)
+
+-- a legal section ends within the memory
+pub ends-inside : (given : ℕ) (r : Registers) (words : ℕ) → Legal given r words → (i : ℕ) → i < 7 → end (getD (sectionsOf r) i none) ≤ words
+ends-inside given r words h i l = ltb-false words (end (getD (sectionsOf r) i none)) (put-inside r words (h .inside) i l)
+
+-- of two legal sections one ends before the other starts
+pub sections-apart : (given : ℕ) (r : Registers) (words : ℕ) → Legal given r words → (i j : ℕ) → i < j → j < 7
+    → (end (getD (sectionsOf r) i none) ≤ getD (sectionsOf r) j none .start .0) ⊎ (end (getD (sectionsOf r) j none) ≤ getD (sectionsOf r) i none .start .0)
+sections-apart given r words h i j l m =
+    side (getD (sectionsOf r) i none) (getD (sectionsOf r) j none) (empty-or-some r i (omega arith)) (empty-or-some r j m)
+    (words-apart _ _ (λ k v w. h .apart i j k l m (within-has r i k v) (within-has r j k w)))
+  where
+    side : (a b : Section) → (a ≡ none) ⊎ (0 < a .words) → (b ≡ none) ⊎ (0 < b .words) → shares a b ≡ false → (end a ≤ b .start .0) ⊎ (end b ≤ a .start .0)
+    side a b (inl e) y f = inl (omega (arith, ap end e))
+    side a b (inr x) (inl e) f = inr (omega (arith, ap end e))
+    side a b (inr x) (inr y) f = go (leb (end a) (b .start .0)) refl
+      where
+        go : (t : Bool) → leb (end a) (b .start .0) ≡ t → (end a ≤ b .start .0) ⊎ (end b ≤ a .start .0)
+        go true e = inl (leb-true (end a) (b .start .0) e)
+        go false e = inr (omega (arith, leb-false (end a) (b .start .0) e, ltb-false (max (a .start .0) (b .start .0)) (min (end a) (end b)) f))

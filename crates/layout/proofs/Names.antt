@@ -97,7 +97,7 @@ overlap-names-first given r words i j e =
     let p : partner ss i ≡ j = ap (partner ss) (sym m) ∙ ap other (b .1) in
     let has : hasPartner ss i ≡ true = ap (hasPartner ss) (sym m) ∙ least-passes (hasPartner ss) 0 7 l in
     let k = ltb-true (partner ss i) 7 has in
-    let here = shared-word _ _ (ap (λ (x : ℕ). shares (getD ss i none) (getD ss x none)) (sym p) ∙ least-passes (λ x. shares (getD ss i none) (getD ss x none)) (i + 1) (7 - (i + 1)) (omega arith)) in
+    let here = shared-word (getD ss i none) (getD ss j none) (ap (λ (x : ℕ). shares (getD ss i none) (getD ss x none)) (sym p) ∙ least-passes (λ x. shares (getD ss i none) (getD ss x none)) (i + 1) (7 - (i + 1)) (omega arith)) in
     record {
       order = omega (arith, least-from (λ x. shares (getD ss i none) (getD ss x none)) (i + 1) (7 - (i + 1)));
       section = omega arith;

@@ -56,6 +56,15 @@ module _ (r : Registers) where
   unfolding ofRow section
   section-row i = ap (λ (ss : List Section). getD ss i none) (sym sections-rows) ∙ List·getD-map ofRow (table r) i (row 0 0 0)
 
+-- a section's words are those of its elements
+pub section-words : (start count each : ℕ) → section start count each .words ≡ count * each
+unfolding section
+section-words start count each = go (eqb count 0) refl
+  where
+    go : (t : Bool) → eqb count 0 ≡ t → pick t none (record { start = record { 0 = start }; words = count * each }) .words ≡ count * each
+    go true e = omega (arith, ap (λ (n : ℕ). n * each) (eqb-true count 0 e))
+    go false e = refl
+
 -- word k is a section's
 pub record Within (s : Section) (k : ℕ) : Type 0 where
   pub from : s .start .0 ≤ k

@@ -40,39 +40,39 @@ fn section_of(start: WordAddress, count: u32, each: u32) -> Section
     }
 }
 
-fn filters11(r: Sidfc) -> Section
+pub fn filters11(r: Sidfc) -> Section
     ensures { λ s. ⌜ s ≡ sidfcSection (r .word) ⌝ }
 {
     section_of(r.start(), r.count(), Sidfc::EACH)
 }
 
-fn filters29(r: Xidfc) -> Section
+pub fn filters29(r: Xidfc) -> Section
     ensures { λ s. ⌜ s ≡ xidfcSection (r .word) ⌝ }
 {
     section_of(r.start(), r.count(), Xidfc::EACH)
 }
 
-fn fifo(r: Rxfc, code: u32) -> Section
+pub fn fifo(r: Rxfc, code: u32) -> Section
     requires { ⌜ code < 8 ⌝ }
     ensures { λ s. ⌜ s ≡ rxfcSection (r .word) code ⌝ }
 {
     section_of(r.start(), r.count(), element_words(code))
 }
 
-fn rx_buffers(r: Rxbc, count: u32, code: u32) -> Section
+pub fn rx_buffers(r: Rxbc, count: u32, code: u32) -> Section
     requires { ⌜ (count ≤ 64) × (code < 8) ⌝ }
     ensures { λ s. ⌜ s ≡ rxbcSection (r .word) count code ⌝ }
 {
     section_of(r.start(), count, element_words(code))
 }
 
-fn events(r: Txefc) -> Section
+pub fn events(r: Txefc) -> Section
     ensures { λ s. ⌜ s ≡ txefcSection (r .word) ⌝ }
 {
     section_of(r.start(), r.count(), Txefc::EACH)
 }
 
-fn tx_buffers(r: Txbc, code: u32) -> Section
+pub fn tx_buffers(r: Txbc, code: u32) -> Section
     requires { ⌜ code < 8 ⌝ }
     ensures { λ s. ⌜ s ≡ txbcSection (r .word) code ⌝ }
 {

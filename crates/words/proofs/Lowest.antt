@@ -98,6 +98,9 @@ module _ (p : ℕ → Bool) where
       go false f = omega (arith, ltb-false (leastFrom p i n) (i + n) f, least-within i n)
 
 -- a loop that looks at i, i + 1, .. below n: what it looks for is the lowest of those that are left
+pub look-start : (p : ℕ → Bool) (n : ℕ) → leastFrom p 0 n ≡ leastFrom p 0 (n - 0)
+look-start p n = let e : n ≡ n - 0 = omega arith in ap (leastFrom p 0) e
+
 module _ (p : ℕ → Bool) (whole i n : ℕ) (left : whole ≡ leastFrom p i (n - i)) where
   pub look-found : i < n → p i ≡ true → i ≡ whole
   look-found h e = sym (left ∙ least-here p i (n - i) (omega arith) e)

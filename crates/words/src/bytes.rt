@@ -37,7 +37,7 @@ pub fn store(mem: &mut [u32], at: usize, n: usize, bytes: &[u8])
 }
 
 // Byte j of a word.
-fn byte_of(word: u32, j: usize) -> u8
+pub fn byte_of(word: u32, j: usize) -> u8
     requires { ⌜ j < 4 ⌝ }
     ensures { λ r. ⌜ r ≡ byteOf word j ⌝ }
 {

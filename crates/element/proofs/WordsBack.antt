@@ -1,0 +1,143 @@
+-- The fields of a frame's words are what was put there, once for every kind of word 1.
+-- Assumes nothing.
+use Prim.Native.Nat.{ℕ, _+_, _*_, _/_, _%_, _^_, _<_, _≤_}
+use mathlib.Core.Path.{_≡_, refl}
+use mathlib.Core.Bool.{Bool, true, false}
+use native.Mathlib.Omega.{arith}
+use Rattle.words.specs.Choice.{pick}
+use Rattle.words.specs.Bits.{bit, isSet}
+use Rattle.words.specs.Fields.{bits}
+use Rattle.frame.specs.declared.Frame.{Frame}
+use Rattle.frame.specs.declared.Matched.{Matched}
+use Rattle.element.specs.Fitting.{anmfOf, indexOf, InFields}
+use Rattle.element.specs.Word0.{idIn, word0}
+use Rattle.element.specs.Word1.{formBits, markerIn, rxWord1, txWord1, eventWord1}
+use Rattle.element.specs.Headers.{frameIn, rxHeaderIn, txHeaderIn, eventHeaderIn}
+use Rattle.element.proofs.Packing.{id-lt, id-long, id-short}
+
+one-le : (b : Bool) → pick b 1 0 ≤ 1
+one-le true = omega arith
+one-le false = omega arith
+
+set-is : (w n : ℕ) (b : Bool) → bit w n ≡ pick b 1 0 → isSet w n ≡ b
+set-is w n true e = simp e
+set-is w n false e = simp e
+
+module _ (f : Frame) (h : InFields f) where
+  -- word 0 by its four fields
+  id-back : (x : Bool) → f .xtd ≡ x → idIn x (word0 f) ≡ f .id
+  unfolding word0
+  id-back true e = omega (arith, one-le (f .esi), one-le (f .xtd), one-le (f .rtr), id-lt (f .xtd) (f .id) (h .id), id-long (f .xtd) (f .id) e)
+  id-back false e = omega (arith, one-le (f .esi), one-le (f .xtd), one-le (f .rtr), id-lt (f .xtd) (f .id) (h .id), id-short (f .xtd) (f .id) e)
+
+  esi-back : isSet (word0 f) 31 ≡ f .esi
+  unfolding word0
+  esi-back = set-is (word0 f) 31 (f .esi) (omega (arith, one-le (f .esi), one-le (f .xtd), one-le (f .rtr), id-lt (f .xtd) (f .id) (h .id)))
+
+  xtd-back : isSet (word0 f) 30 ≡ f .xtd
+  unfolding word0
+  xtd-back = set-is (word0 f) 30 (f .xtd) (omega (arith, one-le (f .esi), one-le (f .xtd), one-le (f .rtr), id-lt (f .xtd) (f .id) (h .id)))
+
+  rtr-back : isSet (word0 f) 29 ≡ f .rtr
+  unfolding word0
+  rtr-back = set-is (word0 f) 29 (f .rtr) (omega (arith, one-le (f .esi), one-le (f .xtd), one-le (f .rtr), id-lt (f .xtd) (f .id) (h .id)))
+
+  form-lt : formBits f < 2 ^ 22
+  unfolding formBits
+  form-lt = omega (arith, one-le (f .fdf), one-le (f .brs), h .dlc)
+
+  form-even : formBits f % 2 ^ 16 ≡ 0
+  unfolding formBits
+  form-even = omega arith
+
+  -- a word 1 of any kind: its own fields above and below FDF, BRS and DLC
+  module _ (top low second : ℕ) (l : low < 2 ^ 16) (s : second ≡ top * 2 ^ 22 + formBits f + low) where
+    fdf-back : isSet second 21 ≡ f .fdf
+    unfolding formBits
+    fdf-back = set-is second 21 (f .fdf) (omega (arith, one-le (f .fdf), one-le (f .brs), h .dlc))
+
+    brs-back : isSet second 20 ≡ f .brs
+    unfolding formBits
+    brs-back = set-is second 20 (f .brs) (omega (arith, one-le (f .fdf), one-le (f .brs), h .dlc))
+
+    dlc-back : bits 19 16 second ≡ f .dlc
+    unfolding formBits
+    dlc-back = omega (arith, one-le (f .fdf), one-le (f .brs), h .dlc)
+
+    top-back : second / 2 ^ 22 ≡ top
+    top-back = omega (arith, form-lt, form-even)
+
+    low-back : bits 15 0 second ≡ low
+    low-back = omega (arith, form-even)
+
+    frame-back : frameIn (word0 f) second ≡ f
+    unfolding frameIn
+    frame-back = simp (dlc-back, fdf-back, brs-back, xtd-back, rtr-back, esi-back, id-back (f .xtd) refl)
+
+  -- an Rx element: ANMF and the index stand above, the timestamp below
+  module _ (m : Matched) (time : ℕ) (i : indexOf m < 128) (t : time < 2 ^ 16) where
+    abbrev rxTop : ℕ
+    rxTop = pick (anmfOf m) 1 0 * 2 ^ 9 + indexOf m * 2 ^ 2
+
+    rx-split : rxWord1 m f time ≡ rxTop * 2 ^ 22 + formBits f + time
+    unfolding rxWord1
+    rx-split = omega arith
+
+    rx-top : rxWord1 m f time / 2 ^ 22 ≡ rxTop
+    rx-top = top-back rxTop time (rxWord1 m f time) t rx-split
+
+    anmf-back : isSet (rxWord1 m f time) 31 ≡ anmfOf m
+    anmf-back = set-is (rxWord1 m f time) 31 (anmfOf m) (omega (arith, rx-top, one-le (anmfOf m)))
+
+    index-back : bits 30 24 (rxWord1 m f time) ≡ indexOf m
+    index-back = omega (arith, rx-top, one-le (anmfOf m))
+
+    pub rx-header-back : rxHeaderIn (word0 f) (rxWord1 m f time) ≡ record { frame = f; anmf = anmfOf m; index = indexOf m; time = time }
+    unfolding rxHeaderIn
+    rx-header-back =
+        simp (frame-back rxTop time (rxWord1 m f time) t rx-split, anmf-back, index-back, low-back rxTop time (rxWord1 m f time) t rx-split)
+
+  -- a Tx element: the marker and the wish stand above, nothing below
+  module _ (marker : ℕ) (wish : Bool) (k : marker < 256) where
+    abbrev txTop : ℕ
+    txTop = marker * 2 ^ 2 + pick wish 1 0 * 2
+
+    tx-split : txWord1 marker wish f ≡ txTop * 2 ^ 22 + formBits f + 0
+    unfolding txWord1
+    tx-split = omega arith
+
+    tx-top : txWord1 marker wish f / 2 ^ 22 ≡ txTop
+    tx-top = top-back txTop 0 (txWord1 marker wish f) (omega arith) tx-split
+
+    tx-marker-back : markerIn (txWord1 marker wish f) ≡ marker
+    tx-marker-back = omega (arith, tx-top, one-le wish)
+
+    wish-back : isSet (txWord1 marker wish f) 23 ≡ wish
+    wish-back = set-is (txWord1 marker wish f) 23 wish (omega (arith, tx-top, one-le wish))
+
+    pub tx-header-back : txHeaderIn (word0 f) (txWord1 marker wish f) ≡ record { frame = f; marker = marker; wish = wish }
+    unfolding txHeaderIn
+    tx-header-back = simp (frame-back txTop 0 (txWord1 marker wish f) (omega arith) tx-split, tx-marker-back, wish-back)
+
+  -- an event: the marker and the type stand above, the timestamp below
+  module _ (marker time : ℕ) (k : marker < 256) (t : time < 2 ^ 16) where
+    abbrev eventTop : ℕ
+    eventTop = marker * 2 ^ 2 + 1
+
+    event-split : eventWord1 marker f time ≡ eventTop * 2 ^ 22 + formBits f + time
+    unfolding eventWord1
+    event-split = omega arith
+
+    event-top : eventWord1 marker f time / 2 ^ 22 ≡ eventTop
+    event-top = top-back eventTop time (eventWord1 marker f time) t event-split
+
+    event-marker-back : markerIn (eventWord1 marker f time) ≡ marker
+    event-marker-back = omega (arith, event-top)
+
+    kind-back : bits 23 22 (eventWord1 marker f time) ≡ 1
+    kind-back = omega (arith, event-top)
+
+    pub event-header-back : eventHeaderIn (word0 f) (eventWord1 marker f time) ≡ record { frame = f; marker = marker; kind = 1; time = time }
+    unfolding eventHeaderIn
+    event-header-back =
+        simp (frame-back eventTop time (eventWord1 marker f time) t event-split, event-marker-back, kind-back, low-back eventTop time (eventWord1 marker f time) t event-split)

@@ -1,0 +1,7 @@
+pub mod Fitting
+pub mod Word0
+pub mod Word1
+pub mod Elements
+pub mod Headers
+pub mod Bytes
+pub mod Promises

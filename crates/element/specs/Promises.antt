@@ -1,0 +1,103 @@
+-- What is stored in an element is what is read from it, and nothing else of the memory changes.
+use Prim.Native.Nat.{ℕ, _+_, _*_, _^_, _<_, _≤_, min}
+use mathlib.Core.Path.{_≡_}
+use mathlib.Core.Bool.{Bool}
+use mathlib.Core.List.{List}
+use mathlib.Core.Logic.{_⊎_}
+use lib.ListN.{length, getD, take}
+use Rattle.words.specs.Runs.{run, part, splice}
+use Rattle.words.specs.Bytes.{byteIn}
+use Rattle.frame.specs.Malformed.{WellFormed}
+use Rattle.frame.specs.Sent.{sentBytes}
+use Rattle.frame.specs.declared.Frame.{Frame}
+use Rattle.frame.specs.declared.Matched.{Matched}
+use Rattle.element.specs.Fitting.{anmfOf, indexOf, InFields}
+use Rattle.element.specs.Elements.{element, rxElement, txElement, eventElement}
+use Rattle.element.specs.Headers.{rxHeaderIn, txHeaderIn, eventHeaderIn, headed}
+use Rattle.element.specs.Bytes.{readBytes, sentFrom}
+
+-- the memory holds these words from word at on
+abbrev pub Holds : List ℕ → ℕ → List ℕ → Type 0
+Holds mem at ws = part at (length ws) mem ≡ ws
+
+-- ---- storing
+
+-- after a store the memory holds the words, and all else is as it was
+pub record Placed (mem : List ℕ) (at : ℕ) (ws : List ℕ) : Type 0 where
+  pub size : length (splice mem at ws) ≡ length mem
+  pub inside : Holds (splice mem at ws) at ws
+  pub outside : (i : ℕ) → (i < at) ⊎ (at + length ws ≤ i) → getD (splice mem at ws) i 0 ≡ getD mem i 0
+
+-- an element of n data words takes 2 + n words
+pub record ElementPlaced (mem : List ℕ) (at first second : ℕ) (d : List ℕ) (n : ℕ) : Type 0 where
+  pub words : length (element first second d n) ≡ 2 + n
+  pub placed : Placed mem at (element first second d n)
+
+abbrev pub ElementStored : Type 0
+ElementStored =
+    (mem : List ℕ) (at first second : ℕ) (d : List ℕ) (n : ℕ)
+    → at + 2 + n ≤ length mem → ElementPlaced mem at first second d n
+
+-- an event takes two
+abbrev pub EventStored : Type 0
+EventStored =
+    (mem : List ℕ) (at marker : ℕ) (f : Frame) (time : ℕ)
+    → at + 2 ≤ length mem → Placed mem at (eventElement marker f time)
+
+-- ---- reading
+
+abbrev pub AreBytes : List ℕ → Type 0
+AreBytes d = (i : ℕ) → getD d i 0 < 256
+
+-- a read gives the data as far as the element holds them, and they go out with 0xCC past it
+pub record BytesBack (mem : List ℕ) (at n : ℕ) (d : List ℕ) : Type 0 where
+  pub read : readBytes mem at n ≡ take (min (length d) (4 * n)) d
+  pub sent : (count : ℕ) → sentFrom mem at n count ≡ sentBytes (4 * n) d count
+
+-- a received frame comes back, with its match and its timestamp
+pub record RxBack (mem : List ℕ) (at n : ℕ) (m : Matched) (f : Frame) (time : ℕ) (d : List ℕ) : Type 0 where
+  pub header : headed rxHeaderIn mem at ≡ record { frame = f; anmf = anmfOf m; index = indexOf m; time = time }
+  pub bytes : BytesBack mem at n d
+
+abbrev pub RxReadsBack : Type 0
+RxReadsBack =
+    (mem : List ℕ) (at n : ℕ) (m : Matched) (f : Frame) (time : ℕ) (d : List ℕ)
+    → Holds mem at (rxElement m f time d n)
+    → indexOf m < 128 → WellFormed f (length d) → time < 2 ^ 16 → AreBytes d
+    → RxBack mem at n m f time d
+
+-- a request comes back: its frame, its marker, its wish and its data
+pub record TxBack (mem : List ℕ) (at n marker : ℕ) (wish : Bool) (f : Frame) (d : List ℕ) : Type 0 where
+  pub header : headed txHeaderIn mem at ≡ record { frame = f; marker = marker; wish = wish }
+  pub bytes : BytesBack mem at n d
+
+abbrev pub TxReadsBack : Type 0
+TxReadsBack =
+    (mem : List ℕ) (at n marker : ℕ) (wish : Bool) (f : Frame) (d : List ℕ)
+    → Holds mem at (txElement marker wish f d n)
+    → marker < 256 → WellFormed f (length d) → AreBytes d
+    → TxBack mem at n marker wish f d
+
+-- an event comes back, of type 1
+abbrev pub EventReadsBack : Type 0
+EventReadsBack =
+    (mem : List ℕ) (at marker : ℕ) (f : Frame) (time : ℕ)
+    → Holds mem at (eventElement marker f time)
+    → marker < 256 → InFields f → time < 2 ^ 16
+    → headed eventHeaderIn mem at ≡ record { frame = f; marker = marker; kind = 1; time = time }
+
+-- whatever the words are, the bytes as sent are those of a frame with the data that stand in them
+abbrev pub SentAsHeld : Type 0
+SentAsHeld =
+    (mem : List ℕ) (at n count : ℕ)
+    → sentFrom mem at n count ≡ sentBytes (4 * n) (run (byteIn mem (at + 2)) 0 (4 * n)) count
+
+-- a read looks at the element's own words alone
+pub record ReadsAlike (mem other : List ℕ) (at n : ℕ) : Type 0 where
+  pub first : getD mem at 0 ≡ getD other at 0
+  pub second : getD mem (at + 1) 0 ≡ getD other (at + 1) 0
+  pub read : readBytes mem at n ≡ readBytes other at n
+  pub sent : (count : ℕ) → sentFrom mem at n count ≡ sentFrom other at n count
+
+abbrev pub OwnWords : Type 0
+OwnWords = (mem other : List ℕ) (at n : ℕ) → part at (2 + n) mem ≡ part at (2 + n) other → ReadsAlike mem other at n

@@ -1,0 +1,35 @@
+-- Word 1 of each kind of element: its fields added up. Bits that are not named are 0.
+use Prim.Native.Nat.{ℕ, _+_, _*_, _^_}
+use mathlib.Core.Bool.{Bool}
+use Rattle.words.specs.Choice.{pick}
+use Rattle.words.specs.Fields.{bits}
+use Rattle.frame.specs.declared.Frame.{Frame}
+use Rattle.frame.specs.declared.Matched.{Matched}
+use Rattle.element.specs.Fitting.{anmfOf, indexOf}
+
+-- in every kind: FDF 21, BRS 20, DLC 19:16
+unfoldable pub formBits : Frame → ℕ
+formBits f = pick (f .fdf) 1 0 * 2 ^ 21 + pick (f .brs) 1 0 * 2 ^ 20 + f .dlc * 2 ^ 16
+
+-- ANMF 31, filter index 30:24, which is 0 if ANMF
+abbrev pub matchBits : Matched → ℕ
+matchBits m = pick (anmfOf m) 1 0 * 2 ^ 31 + indexOf m * 2 ^ 24
+
+-- the marker in its place, 31:24, and taken out of it
+abbrev pub markerBits : ℕ → ℕ
+markerBits marker = marker * 2 ^ 24
+
+abbrev pub markerIn : ℕ → ℕ
+markerIn w = bits 31 24 w
+
+-- an Rx element's: the match, and the timestamp in 15:0
+unfoldable pub rxWord1 : Matched → Frame → ℕ → ℕ
+rxWord1 m f time = matchBits m + formBits f + time
+
+-- a Tx element's: the marker, and event wanted 23
+unfoldable pub txWord1 : ℕ → Bool → Frame → ℕ
+txWord1 marker wish f = markerBits marker + pick wish 1 0 * 2 ^ 23 + formBits f
+
+-- an event's: the marker, type 1 in 23:22, and the timestamp in 15:0
+unfoldable pub eventWord1 : ℕ → Frame → ℕ → ℕ
+eventWord1 marker f time = markerBits marker + 1 * 2 ^ 22 + formBits f + time

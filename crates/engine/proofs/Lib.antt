@@ -1,0 +1,5 @@
+pub mod Unfitness
+pub mod Cases
+pub mod Rooms
+pub mod Keeps
+pub mod Sounds

@@ -1,0 +1,40 @@
+use borrow.Author.Needs.{needs}
+use Rattle.engine.proofs.areas.tx_area.Statement.{statement}
+use Rattle.engine.proofs.areas.tx_area.Tie as tie
+
+size-requires : tie.Need-size-requires
+size-requires c κs = search needs
+
+tx-buffers-requires : tie.Need-tx-buffers-requires
+tx-buffers-requires c κs = search needs
+
+dedicated-requires : tie.Need-dedicated-requires
+dedicated-requires c κs = search needs
+
+shared-requires : tie.Need-shared-requires
+shared-requires c κs = search needs
+
+add-area-in : tie.Need-add-area-in
+add-area-in c = search needs
+
+element-words-requires : tie.Need-element-words-requires
+element-words-requires c κs = search needs
+
+area-in-requires : tie.Need-area-in-requires
+area-in-requires c κs = search needs
+
+returns : tie.Need-returns
+returns c = cc
+
+pub tx-area-spec : {M : Type 1} → statement M
+tx-area-spec =
+    tie.close
+    (tie.spec
+    size-requires
+    tx-buffers-requires
+    dedicated-requires
+    shared-requires
+    add-area-in
+    element-words-requires
+    area-in-requires
+    returns)

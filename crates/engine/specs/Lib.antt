@@ -1,0 +1,9 @@
+pub mod Answers
+pub mod States
+pub mod Areas
+pub mod Fitness
+pub mod Flags
+pub mod Keeping
+pub mod Starting
+pub mod Overview
+pub mod Promises

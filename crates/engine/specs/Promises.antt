@@ -1,0 +1,17 @@
+-- What is promised of the engine: statements only.
+use Prim.Native.Nat.{ℕ}
+use mathlib.Core.Path.{_≡_}
+use mathlib.Core.Bool.{true, false}
+use mathlib.Core.Logic.{_↔_}
+use Rattle.engine.specs.Fitness.{unfit, Sound, FlagsSound}
+use Rattle.engine.specs.States.{neverStarted}
+use Rattle.engine.specs.declared.state.State.{State}
+use Rattle.engine.specs.declared.state.Record.{Record}
+
+-- a state is fit exactly where the facts of a sound one hold
+abbrev pub FitIsSound : Type 0
+FitIsSound = (s : State) (r : Record) (words : ℕ) → (unfit s r words ≡ false) ↔ (Sound s words × FlagsSound r)
+
+-- a state that was never started is unfit, whatever the record and the memory
+abbrev pub NeverStartedIsUnfit : Type 0
+NeverStartedIsUnfit = (r : Record) (words : ℕ) → unfit neverStarted r words ≡ true

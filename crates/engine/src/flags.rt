@@ -1,0 +1,65 @@
+// The steps on the record, by value.
+use crate::state::Record;
+use words::bits32;
+ghost use mathlib.Core.Path.{_≡_};
+ghost use mathlib.Core.Bool.{Bool};
+ghost use Prim.Native.Nat.{_+_, _^_, _≤_, _<_};
+ghost use Rattle.engine.specs.Flags.{raised, raisedIf, cleared, withPriority, filling, priorityWord};
+
+// One flag is set.
+pub fn raise(r: Record, flag: u32) -> Record
+    requires { ⌜ flag < 32 ⌝ }
+    ensures { λ n. ⌜ n ≡ raised r flag ⌝ }
+{
+    let mut n = r;
+    n.flags = bits32::set(r.flags, flag);
+    n
+}
+
+// One flag is set where a test holds.
+pub fn raise_if(r: Record, on: bool, flag: u32) -> Record
+    requires { ⌜ flag < 32 ⌝ }
+    ensures { λ n. ⌜ n ≡ raisedIf r on flag ⌝ }
+{
+    if on {
+        return raise(r, flag);
+    }
+    r
+}
+
+// The flags of a mask are cleared; the priority stays.
+pub fn clear(r: Record, mask: u32) -> Record
+    ensures { λ n. ⌜ n ≡ cleared r mask ⌝ }
+{
+    let mut n = r;
+    n.flags = bits32::clear_mask(r.flags, mask);
+    n
+}
+
+// The priority word is replaced whole.
+pub fn set_priority(r: Record, word: u32) -> Record
+    ensures { λ n. ⌜ n ≡ withPriority r word ⌝ }
+{
+    let mut n = r;
+    n.priority = word;
+    n
+}
+
+// A fill rose to a number: new, watermark where it is the watermark, full where it is the size.
+pub fn fill_rose(r: Record, first: u32, fill: u32, mark: u32, size: u32) -> Record
+    requires { ⌜ first ≤ 28 ⌝ }
+    ensures { λ n. ⌜ n ≡ filling r first fill mark size ⌝ }
+{
+    let new = raise(r, first);
+    let marked = raise_if(new, fill == mark, first + 1);
+    raise_if(marked, fill == size, first + 2)
+}
+
+// What the priority record says of a match: its list and index, the outcome and the element.
+pub fn priority_word(long: bool, index: u32, outcome: u32, place: u32) -> u32
+    requires { ⌜ (index < 128) × (outcome < 4) × (place < 64) ⌝ }
+    ensures { λ w. ⌜ w ≡ priorityWord long index outcome place ⌝ }
+{
+    let list = frame::bit_of(long);
+    list * 0x8000 + index * 0x100 + outcome * 0x40 + place
+}

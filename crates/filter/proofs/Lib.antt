@@ -1,0 +1,10 @@
+pub mod Tests
+pub mod Turns
+pub mod Ways
+pub mod FirstMatches
+pub mod TypeByType
+pub mod ActionByAction
+pub mod OwnSection
+pub mod Bounds
+pub mod Answers
+pub mod Stars

@@ -1,0 +1,90 @@
+-- Where a received frame goes.
+use Prim.Native.Nat.{ℕ}
+use mathlib.Core.Bool.{Bool, true, false, not, _&&_}
+use mathlib.Core.List.{List}
+use lib.Dec.{eqb, ltb, leb}
+use Rattle.words.specs.Choice.{pick}
+use Rattle.words.specs.Fields.{bits}
+use Rattle.words.specs.Bits.{isSet}
+use Rattle.registers.specs.declared.Registers.{Registers}
+use Rattle.frame.specs.declared.Frame.{Frame}
+use Rattle.frame.specs.declared.Matched.{Matched}
+use Rattle.frame.specs.declared.Matched.the-variants.{Nothing, Filter}
+use Rattle.filter.specs.Search.{listOf, elementAt, firstMatch}
+use Rattle.filter.specs.declared.lists.FilterList.{FilterList}
+use Rattle.filter.specs.declared.Reason.{Reason}
+use Rattle.filter.specs.declared.Reason.the-variants.{Remote, Reject, NoMatch, PriorityOnly, Debug, Misfiled, Locked}
+use Rattle.filter.specs.declared.Destination.{Destination}
+use Rattle.filter.specs.declared.Destination.the-variants.{Fifo, Buffer, Discarded}
+
+-- where a frame goes, in the paper's numbers, with the index of the element that matched, if one did
+pub data Goes : Type 0 where
+  -- to FIFO 0 or 1; whether with priority
+  toFifo : ℕ → Bool → Matched → Goes
+  -- to an Rx buffer; the index
+  toBuffer : ℕ → ℕ → Goes
+  -- the reason's number
+  discarded : ℕ → Matched → Goes
+
+-- the reasons' numbers
+abbrev pub reason : Reason → ℕ
+reason Remote = 0
+reason Reject = 1
+reason NoMatch = 2
+reason PriorityOnly = 3
+reason Debug = 4
+reason Misfiled = 5
+reason Locked = 6
+
+-- what an answer of the code says
+abbrev pub meaning : Destination → Goes
+meaning (Fifo k priority m) = toFifo k priority m
+meaning (Buffer b i) = toBuffer b i
+meaning (Discarded why m) = discarded (reason why) m
+
+-- 1: remote frames of a kind are out where RRFS, or RRFE of 29 bits, is 1
+abbrev pub remoteOut : ℕ → Bool → Bool
+remoteOut gfc xtd = eqb (pick xtd (bits 0 0 gfc) (bits 1 1 gfc)) 1
+
+-- 2: what becomes of frames that no element matches, ANFS, or ANFE of 29 bits: 0 FIFO 0, 1 FIFO 1, 2 and 3 discard
+abbrev pub nonMatching : ℕ → Bool → ℕ
+nonMatching gfc xtd = pick xtd (bits 3 2 gfc) (bits 5 4 gfc)
+
+unfoldable pub unmatched : ℕ → Goes
+unmatched anf =
+    pick (eqb anf 0) (toFifo 0 false Nothing)
+    (pick (eqb anf 1) (toFifo 1 false Nothing)
+    (discarded (reason NoMatch) Nothing))
+
+-- 4, action 7: ID2 bits 10:9 not 0 means debug, and bits 5:0 name the buffer. One past the count is misfiled.
+-- 5: one whose new-data bit is set is locked
+unfoldable pub rxBuffer : ℕ → ℕ → ℕ → ℕ → Goes
+rxBuffer id2 buffers newdata i =
+    pick (not (eqb (bits 10 9 id2) 0)) (discarded (reason Debug) (Filter i))
+    (pick (leb buffers (bits 5 0 id2)) (discarded (reason Misfiled) (Filter i))
+    (pick (isSet newdata (bits 5 0 id2)) (discarded (reason Locked) (Filter i))
+    (toBuffer (bits 5 0 id2) i)))
+
+-- 4: 1 FIFO 0; 2 FIFO 1; 3 reject; 4 priority, not stored; 5 and 6 priority and FIFO 0 or 1; 7 Rx buffer. 0 never matches
+unfoldable pub byAction : ℕ → ℕ → ℕ → ℕ → ℕ → Goes
+byAction action id2 buffers newdata i =
+    pick (eqb action 1) (toFifo 0 false (Filter i))
+    (pick (eqb action 2) (toFifo 1 false (Filter i))
+    (pick (eqb action 3) (discarded (reason Reject) (Filter i))
+    (pick (eqb action 4) (discarded (reason PriorityOnly) (Filter i))
+    (pick (eqb action 5) (toFifo 0 true (Filter i))
+    (pick (eqb action 6) (toFifo 1 true (Filter i))
+    (rxBuffer id2 buffers newdata i))))))
+
+-- by what the search in a list answers
+unfoldable pub bySearch : Registers → List ℕ → FilterList → ℕ → ℕ → Goes
+bySearch g mem l newdata i =
+    pick (ltb i (l .count))
+    (byAction (elementAt mem l i .action) (elementAt mem l i .id2) (g .buffers) newdata i)
+    (unmatched (nonMatching (g .gfc .word) (l .xtd)))
+
+-- 1 remote frames go out first; 2 the list of the frame's kind is searched; 3 to 5 the first match decides
+unfoldable pub destination : Registers → List ℕ → Frame → ℕ → Goes
+destination g mem f newdata =
+    pick (f .rtr && remoteOut (g .gfc .word) (f .xtd)) (discarded (reason Remote) Nothing)
+    (bySearch g mem (listOf g (f .xtd)) newdata (firstMatch mem (listOf g (f .xtd)) (f .id)))

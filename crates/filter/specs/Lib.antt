@@ -1,0 +1,6 @@
+pub mod Elements
+pub mod Matching
+pub mod Search
+pub mod Destination
+pub mod Promises
+pub mod Stars

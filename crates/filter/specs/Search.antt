@@ -1,0 +1,51 @@
+-- The filter list of a kind, and the search in it.
+use Prim.Native.Nat.{ℕ, _+_, _-_, _*_, _≤_}
+use mathlib.Core.Bool.{Bool}
+use mathlib.Core.List.{List}
+use lib.ListN.{getD}
+use Rattle.words.specs.Choice.{pick}
+use Rattle.words.specs.Fields.{bits}
+use Rattle.words.specs.Least.{leastFrom}
+use Rattle.registers.specs.declared.Registers.{Registers}
+use Rattle.filter.specs.Elements.{element11, element29}
+use Rattle.filter.specs.Matching.{matches}
+use Rattle.filter.specs.declared.filters.FilterElement.{FilterElement}
+use Rattle.filter.specs.declared.lists.FilterList.{FilterList}
+
+-- the list of a kind: SIDFC's, or XIDFC's of 29 bits
+abbrev pub listOf : Registers → Bool → FilterList
+listOf g xtd = record {
+  xtd = xtd;
+  start = record { 0 = pick xtd (bits 15 2 (g .xidfc .word)) (bits 15 2 (g .sidfc .word)) };
+  count = pick xtd (bits 22 16 (g .xidfc .word)) (bits 23 16 (g .sidfc .word));
+  xidam = bits 28 0 (g .xidam .word);
+}
+
+-- how many words a list has: one for an element, two for one of 29 bits
+abbrev pub listWords : FilterList → ℕ
+listWords l = pick (l .xtd) (2 * l .count) (l .count)
+
+-- element i
+unfoldable pub elementAt : List ℕ → FilterList → ℕ → FilterElement
+elementAt mem l i =
+    pick (l .xtd)
+    (element29 (getD mem (l .start .0 + 2 * i) 0) (getD mem (l .start .0 + 2 * i + 1) 0))
+    (element11 (getD mem (l .start .0 + i) 0))
+
+-- element i matches an identifier
+abbrev pub matchesAt : List ℕ → FilterList → ℕ → ℕ → Bool
+matchesAt mem l id i = matches (l .xtd) (l .xidam) (elementAt mem l i) id
+
+-- the search: the lowest element that matches, or the count where none does
+unfoldable pub firstMatch : List ℕ → FilterList → ℕ → ℕ
+firstMatch mem l id = leastFrom (matchesAt mem l id) 0 (l .count)
+
+-- a list lies in a memory of so many words. One of count 0 has no words, wherever it starts
+pub record Fits (l : FilterList) (words : ℕ) : Type 0 where
+  pub room : listWords l ≤ words - l .start .0
+
+-- what an accepted layout gives: both lists lie in the memory, and their counts are within their most
+pub record ListsFit (g : Registers) (words : ℕ) : Type 0 where
+  pub lists : (xtd : Bool) → Fits (listOf g xtd) words
+  pub filters11 : bits 23 16 (g .sidfc .word) ≤ 128
+  pub filters29 : bits 22 16 (g .xidfc .word) ≤ 64
