@@ -3,3 +3,5 @@ pub mod Cases
 pub mod Rooms
 pub mod Keeps
 pub mod Sounds
+pub mod Fits
+pub mod Replies

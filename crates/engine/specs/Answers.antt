@@ -1,5 +1,9 @@
 -- What calls say, in the paper's numbers.
 use Prim.Native.Nat.{ℕ}
+use mathlib.Core.Bool.{Bool, not}
+use mathlib.Core.List.{List}
+use lib.Dec.{eqb}
+use lib.ListN.{length}
 use Rattle.engine.specs.declared.refusals.Refusal.{Refusal}
 use Rattle.engine.specs.declared.refusals.Refusal.the-variants.{Unfit, Malformed, FdOff, NoSuch, AlreadyPending, NoneFree, InSharedFifo, NotPending, NotTheChoice, NotHeld, WrongOutput}
 use Rattle.engine.specs.declared.refusals.Reply.{Reply}
@@ -23,6 +27,10 @@ numberOf NotPending = 27
 numberOf NotTheChoice = 28
 numberOf NotHeld = 29
 numberOf WrongOutput = 30
+
+-- 30: a lent output isn't 64 bytes
+abbrev pub wrongOutput : List ℕ → Bool
+wrongOutput out = not (eqb (length out) 64)
 
 -- of a call that has nothing to tell
 abbrev pub done : Says (Unit {0})

@@ -1,5 +1,5 @@
 -- Where the elements of a section stand, and the fields of the registers that the calls go by.
-use Prim.Native.Nat.{ℕ, _+_, _*_, _≤_}
+use Prim.Native.Nat.{ℕ, _+_, _-_, _*_, _≤_}
 use lib.Dec.{eqb}
 use mathlib.Core.Bool.{Bool}
 use Rattle.words.specs.Choice.{pick}
@@ -61,6 +61,10 @@ isQueue r = eqb (bits 30 30 (r .txbc .word)) 1
 
 abbrev pub txArea : Registers → Area
 txArea r = areaIn (txbcSection (r .txbc .word) (bits 2 0 (r .txesc .word))) (txCount r) (elementWords (bits 2 0 (r .txesc .word)))
+
+-- the data words of an area's elements: all but the two of the header
+abbrev pub dataWords : Area → ℕ
+dataWords a = a .each - 2
 
 -- the first word of the element at a place
 abbrev pub placeIn : Area → ℕ → ℕ

@@ -1,14 +1,24 @@
 -- What becomes of a new element in a ring of elements: FIFO 0, FIFO 1 and the event list alike.
 use Prim.Native.Nat.{ℕ, _+_, _≤_}
+use mathlib.Core.List.{List}
 use lib.Dec.{eqb, ltb}
 use Rattle.words.specs.Choice.{pick}
+use Rattle.words.specs.Runs.{splice}
 use Rattle.ring.specs.Rings.{Fit, putPlace, pushed, overwritten}
 use Rattle.ring.specs.declared.Ring.{Ring}
+use Rattle.engine.specs.Areas.{placeIn}
 use Rattle.engine.specs.Flags.{raised, filling}
 use Rattle.engine.specs.declared.state.Record.{Record}
 use Rattle.engine.specs.declared.keeping.Keeper.{Keeper}
 use Rattle.engine.specs.declared.keeping.Kept.{Kept}
+use Rattle.engine.specs.declared.areas.Area.{Area}
+use Rattle.engine.specs.declared.keeping.Slot.{Slot}
 use Rattle.engine.specs.declared.keeping.Slot.the-variants.{At, Lost}
+
+-- the memory after an element of these words went into a slot of an area
+abbrev pub slotMemory : List ℕ → Area → List ℕ → Slot → List ℕ
+slotMemory mem a ws (At p) = splice mem (placeIn a p) ws
+slotMemory mem a ws Lost = mem
 
 pub record CanKeep (k : Keeper) (q : Ring) : Type 0 where
   pub ring : Fit q (k .size)

@@ -1,0 +1,7 @@
+pub mod HexDigits
+pub mod Lines
+pub mod Decimals
+pub mod Pushed
+pub mod Told
+pub mod Answers
+pub mod Stars

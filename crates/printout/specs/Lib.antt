@@ -1,0 +1,6 @@
+pub mod Ascii
+pub mod Content
+pub mod Input
+pub mod Printed
+pub mod Promises
+pub mod Stars
