@@ -1,24 +1,23 @@
 -- The cases of the small definitions over states and registers, one law each.
 -- Assumes nothing.
-use Prim.Native.Nat.{ℕ, _+_, _≤_, _<_}
-use mathlib.Core.Path.{_≡_, refl, sym, ap, _∙_}
+use Prim.Native.Nat.{ℕ, _≤_, _<_}
+use mathlib.Core.Path.{_≡_, sym, ap, _∙_}
 use mathlib.Core.Bool.{Bool, true, false, not, _||_}
 use mathlib.Core.List.{List}
 use native.Mathlib.Omega.{arith}
 use lib.Count.{ones}
 use Rattle.words.specs.Choice.{pick}
 use Rattle.words.specs.Fields.{bits}
-use Rattle.words.specs.Rules.{Ruling, allowed, refused, isAllowed, settle}
+use Rattle.words.specs.Rules.{isAllowed}
 use Rattle.words.proofs.Choices.{pick-first, pick-second}
 use Rattle.words.proofs.Rulings.{settle-allowed, settle-refused}
 use Rattle.ring.specs.Rings.{Fit, fits}
-use Rattle.ring.specs.declared.Ring.{Ring}
 use Rattle.registers.specs.declared.Registers.{Registers}
 use Rattle.layout.specs.Sections.{memoryWords}
-use Rattle.layout.specs.Verdict.{Refusal, meaning, verdict, reported}
+use Rattle.layout.specs.Verdict.{meaning, verdict, reported}
 use Rattle.layout.specs.declared.sections.Section.{Section}
 use Rattle.layout.specs.declared.check.Verdict.{Verdict}
-use Rattle.engine.specs.Areas.{fifoWord, eventSize, dedicated, shared, txCount, isQueue}
+use Rattle.engine.specs.Areas.{fifoWord, eventSize, shared, isQueue}
 use Rattle.engine.specs.Fitness.{sharedRingSize, ringsUnfit, SharedFits, SharedCan, Sound, unfit}
 use Rattle.engine.specs.Flags.{cleared}
 use Rattle.engine.specs.Overview.{clearOutcome, clearRule, ringStatus, statusOf, statusSays, statusRule}

@@ -1,30 +1,29 @@
--- What is fit, and stays so: an accepted start's state, and a state whose flags are cleared. One that was never started is not.
+-- What is fit, and stays so: an accepted start's state, and a state whose flags are cleared. One that was never started is not. And what a fit state counts.
 -- Assumes nothing.
-use Prim.Native.Nat.{ℕ, _+_, _-_, _/_, _%_, _^_, _≤_, _<_, min}
+use Prim.Native.Nat.{ℕ, _+_, _-_, _%_, _^_}
 use mathlib.Core.Path.{_≡_, refl, sym, ap, _∙_}
 use mathlib.Core.Bool.{Bool, true, false}
 use native.Mathlib.Nat.{zero-div}
 use native.Mathlib.Omega.{arith}
 use lib.Dec.{eqb}
 use lib.Pow.{pow-pos}
-use Rattle.words.specs.Bits.{bit, isSet, withoutMask}
-use Rattle.words.specs.Rules.{Ruling, allowed, refused, settle}
+use Rattle.words.specs.Bits.{bit, withoutMask}
+use Rattle.words.specs.Rules.{Ruling, allowed, settle}
 use Rattle.words.proofs.Bits.{bit-and}
-use Rattle.ring.specs.Rings.{Fit, noneHeld}
+use Rattle.words.proofs.Counting.{ones-many}
+use Rattle.ring.specs.Rings.{noneHeld}
 use Rattle.ring.proofs.Fitness.{fit-none}
 use Rattle.ring.proofs.Holding.{empty-not-held}
 use Rattle.registers.specs.declared.Registers.{Registers}
 use Rattle.layout.specs.Sections.{memoryWords}
 use Rattle.layout.specs.Verdict.{Refusal, verdict}
 use Rattle.layout.proofs.Accepted.{accepted-is-legal}
-use Rattle.engine.specs.Areas.{fifoSize, eventSize, dedicated}
-use Rattle.engine.specs.Fitness.{sharedRingSize, unfit, Sound, FlagsSound}
+use Rattle.engine.specs.Areas.{fifoSize, eventSize, dedicated, txCount}
+use Rattle.engine.specs.Fitness.{sharedRingSize, unfit, Sound}
 use Rattle.engine.specs.Flags.{cleared}
-use Rattle.engine.specs.Promises.{NeverStartedIsUnfit, StartIsFit, ClearKeepsFit, RefusedStartChangesNothing}
+use Rattle.engine.specs.Promises.{NeverStartedIsUnfit, StartIsFit, ClearKeepsFit, RefusedStartChangesNothing, PendingIsCounted}
 use Rattle.engine.specs.Starting.{startRule}
 use Rattle.engine.specs.States.{emptyState, noFlags, neverStarted}
-use Rattle.engine.specs.declared.state.State.{State}
-use Rattle.engine.specs.declared.state.Record.{Record}
 use Rattle.engine.proofs.Cases.{shared-most}
 use Rattle.engine.proofs.Sounds.{sound-of, flags-of, fit-of}
 
@@ -67,3 +66,6 @@ pub refused-start-changes-nothing : RefusedStartChangesNothing
 unfolding startRule
 refused-start-changes-nothing old status regs words n e =
     (ap (λ (v : Ruling Refusal). settle v (emptyState regs) (λ m. old)) e, ap (λ (v : Ruling Refusal). settle v noFlags (λ m. status)) e)
+
+pub pending-is-counted : PendingIsCounted
+pending-is-counted s words h = ones-many (txCount (s .regs)) (s .pending) (h .pending)

@@ -2,7 +2,6 @@
 -- Assumes nothing.
 use Prim.Native.Nat.{ℕ}
 use mathlib.Core.Path.{_≡_, refl, sym, ap, _∙_}
-use mathlib.Core.List.{[], _∷_}
 use lib.Dec.{eqb}
 use Rattle.words.specs.Choice.{pick}
 use Rattle.engine.specs.Answers.{Says, refuses, answers, numberOf, replied}
@@ -13,7 +12,7 @@ use Rattle.engine.specs.declared.refusals.Reply.{Reply}
 use Rattle.engine.specs.declared.refusals.Reply.the-variants.{Done, Refused}
 
 -- the refusal that has a number
-pub refusalOf : ℕ → Refusal
+abbrev pub refusalOf : ℕ → Refusal
 refusalOf n =
     pick (eqb n 20) Unfit
     (pick (eqb n 21) Malformed
@@ -27,7 +26,6 @@ refusalOf n =
     (pick (eqb n 29) NotHeld WrongOutput)))))))))
 
 pub refusal-back : (n : Refusal) → refusalOf (numberOf n) ≡ n
-unfolding refusalOf
 refusal-back Unfit = refl
 refusal-back Malformed = refl
 refusal-back FdOff = refl
@@ -39,6 +37,9 @@ refusal-back NotPending = refl
 refusal-back NotTheChoice = refl
 refusal-back NotHeld = refl
 refusal-back WrongOutput = refl
+
+pub one-number : (a b : Refusal) → numberOf a ≡ numberOf b → a ≡ b
+one-number a b e = sym (refusal-back a) ∙ ap refusalOf e ∙ refusal-back b
 
 replyOf : Says (Unit {0}) → Reply
 replyOf (refuses n) = Refused (refusalOf n)

@@ -1,15 +1,15 @@
 -- A state is fit exactly where the facts of a sound one hold.
 -- Assumes nothing.
-use Prim.Native.Nat.{ℕ, zero, suc, _+_, _*_, _/_, _%_, _^_, _≤_, _<_}
+use Prim.Native.Nat.{ℕ, _+_, _/_, _^_, _<_}
 use mathlib.Core.Path.{_≡_, refl, sym, ap, ap₂, _∙_}
 use mathlib.Core.Bool.{Bool, true, false, not, _&&_, _||_}
 use borrow.Author.Tests.{eqb-true, eq-eqb, ltb-false, le-ltb, not-false}
 use native.Mathlib.Nat.{div-lt-iff-lt-mul, div-eq-of-lt}
 use native.Mathlib.Omega.{arith}
-use lib.Dec.{eqb, ltb}
+use lib.Dec.{eqb}
 use lib.Pow.{pow-pos}
 use Rattle.words.specs.Bits.{isSet}
-use Rattle.words.specs.Fields.{bits, onlyNamed}
+use Rattle.words.specs.Fields.{onlyNamed}
 use Rattle.words.specs.Least.{leastFrom}
 use Rattle.words.specs.Rules.{Ruling, isAllowed}
 use Rattle.words.proofs.Choices.{or-neither}
@@ -22,10 +22,9 @@ use Rattle.ring.proofs.Fitness.{fit-of-fits, fits-of-fit}
 use Rattle.registers.specs.declared.Registers.{Registers}
 use Rattle.layout.specs.Sections.{memoryWords}
 use Rattle.layout.specs.Verdict.{Refusal, meaning, verdict}
-use Rattle.layout.specs.Legal.{Legal}
 use Rattle.layout.specs.declared.check.Verdict.{Verdict}
 use Rattle.layout.proofs.Accepted.{accepted-is-legal}
-use Rattle.engine.specs.Areas.{fifoWord, fifoSize, eventSize, dedicated, shared, txCount}
+use Rattle.engine.specs.Areas.{fifoSize, eventSize, dedicated, shared, txCount}
 use Rattle.engine.specs.Fitness.{registersUnfit, sharedRingSize, ringsUnfit, past, bitsUnfit, differs, sharedUnfit, flagFields, flagsUnfit, unfit, Sound, FlagsSound, SharedCan}
 use Rattle.engine.specs.Promises.{FitIsSound}
 use Rattle.engine.specs.declared.state.State.{State}

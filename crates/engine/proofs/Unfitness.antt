@@ -1,7 +1,7 @@
 -- The cases of unfitness, one law each, and the turns of the loop over the shared FIFO's places.
 -- Assumes nothing.
 use Prim.Native.Nat.{ℕ, _+_, _-_, _/_, _^_, _≤_, _<_}
-use mathlib.Core.Path.{_≡_, refl, sym, ap, ap₂, _∙_}
+use mathlib.Core.Path.{_≡_, sym, ap, _∙_}
 use mathlib.Core.Bool.{Bool, true, false, not, _||_}
 use borrow.Author.Tests.{eq-eqb, lt-ltb, le-ltb}
 use native.Mathlib.Nat.{div-eq-of-lt, lt-of-lt-of-le}

@@ -1,5 +1,5 @@
 -- Where the elements of a section stand, and the fields of the registers that the calls go by.
-use Prim.Native.Nat.{ℕ, _+_, _-_, _*_, _≤_}
+use Prim.Native.Nat.{ℕ, _+_, _-_, _*_, _≤_, _<_}
 use lib.Dec.{eqb}
 use mathlib.Core.Bool.{Bool}
 use Rattle.words.specs.Choice.{pick}
@@ -70,10 +70,15 @@ dataWords a = a .each - 2
 abbrev pub placeIn : Area → ℕ → ℕ
 placeIn a place = a .start + place * a .each
 
--- an area that lies in a memory of so many words, with elements of some size
+-- an area that lies in a memory of so many words. 4,352 words are the most that a box will have: a bound that keeps sums of addresses small
 pub record Roomy (a : Area) (words : ℕ) : Type 0 where
   pub few : a .count ≤ 64
   pub header : 2 ≤ a .each
   pub most : a .each ≤ 18
   pub memory : words ≤ 4352
   pub room : a .start + a .count * a .each ≤ words
+
+-- a place of such an area
+pub record HasPlace (a : Area) (place words : ℕ) : Type 0 where
+  pub room : Roomy a words
+  pub within : place < a .count

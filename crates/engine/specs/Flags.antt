@@ -26,6 +26,6 @@ withPriority r word = record { flags = r .flags; priority = word }
 unfoldable pub filling : Record → ℕ → ℕ → ℕ → ℕ → Record
 filling r first fill mark size = raisedIf (raisedIf (raised r first) (eqb fill mark) (first + 1)) (eqb fill size) (first + 2)
 
--- 29-bit list 15, filter index 14:8, outcome 7:6, element 5:0
+-- the list in bit 15 (1 for 29 bits), the index from bit 8, the outcome from bit 6, the place from bit 0
 unfoldable pub priorityWord : Bool → ℕ → ℕ → ℕ → ℕ
-priorityWord long index outcome place = pick long 1 0 * 2 ^ 15 + index * 2 ^ 8 + outcome * 2 ^ 6 + place
+priorityWord xtd index outcome place = pick xtd 1 0 * 2 ^ 15 + index * 2 ^ 8 + outcome * 2 ^ 6 + place

@@ -1,6 +1,6 @@
 -- Calls 14, clear flags, and 15, status: the whole outcome.
 use Prim.Native.Nat.{ℕ}
-use mathlib.Core.List.{List, [], _∷_}
+use mathlib.Core.List.{[], _∷_}
 use lib.Count.{ones}
 use Rattle.words.specs.Rules.{refuseIf, first, settle}
 use Rattle.ring.specs.Rings.{putPlace}

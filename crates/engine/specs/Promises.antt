@@ -3,13 +3,16 @@ use Prim.Native.Nat.{ℕ}
 use mathlib.Core.Path.{_≡_}
 use mathlib.Core.Bool.{true, false}
 use mathlib.Core.Logic.{_↔_}
+use Rattle.words.specs.Bits.{isSet, howMany}
 use Rattle.words.specs.Rules.{allowed, refused}
 use Rattle.registers.specs.declared.Registers.{Registers}
 use Rattle.layout.specs.Sections.{memoryWords}
 use Rattle.layout.specs.Verdict.{Refusal, verdict}
 use Rattle.engine.specs.Answers.{replied}
 use Rattle.engine.specs.Fitness.{unfit, Sound, FlagsSound}
+use Rattle.engine.specs.Areas.{txCount}
 use Rattle.engine.specs.Flags.{cleared}
+use Rattle.engine.specs.Overview.{statusOf}
 use Rattle.engine.specs.Starting.{startRule}
 use Rattle.engine.specs.States.{emptyState, noFlags, neverStarted}
 use Rattle.engine.specs.declared.state.State.{State}
@@ -40,3 +43,7 @@ RefusedStartChangesNothing =
 -- no two replies of the code mean the same
 abbrev pub OneReply : Type 0
 OneReply = (a b : Reply) → replied a ≡ replied b → a ≡ b
+
+-- of a fit state, the number that status gives is how many of its Tx buffers are pending
+abbrev pub PendingIsCounted : Type 0
+PendingIsCounted = (s : State) (words : ℕ) → Sound s words → statusOf s .pending ≡ howMany (isSet (s .pending)) (txCount (s .regs))

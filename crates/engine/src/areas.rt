@@ -1,5 +1,4 @@
 // Where the elements of a section stand: its first word, how many elements it has, and how many words each has.
-use crate::state::State;
 use layout::sections::Section;
 use layout::sections::events;
 use layout::sections::fifo;

@@ -2,8 +2,7 @@
 use crate::state::Record;
 use words::bits32;
 ghost use mathlib.Core.Path.{_≡_};
-ghost use mathlib.Core.Bool.{Bool};
-ghost use Prim.Native.Nat.{_+_, _^_, _≤_, _<_};
+ghost use Prim.Native.Nat.{_+_, _≤_, _<_};
 ghost use Rattle.engine.specs.Flags.{raised, raisedIf, cleared, withPriority, filling, priorityWord};
 
 // One flag is set.
@@ -56,10 +55,10 @@ pub fn fill_rose(r: Record, first: u32, fill: u32, mark: u32, size: u32) -> Reco
 }
 
 // What the priority record says of a match: its list and index, the outcome and the element.
-pub fn priority_word(long: bool, index: u32, outcome: u32, place: u32) -> u32
+pub fn priority_word(xtd: bool, index: u32, outcome: u32, place: u32) -> u32
     requires { ⌜ (index < 128) × (outcome < 4) × (place < 64) ⌝ }
-    ensures { λ w. ⌜ w ≡ priorityWord long index outcome place ⌝ }
+    ensures { λ w. ⌜ w ≡ priorityWord xtd index outcome place ⌝ }
 {
-    let list = frame::bit_of(long);
+    let list = frame::bit_of(xtd);
     list * 0x8000 + index * 0x100 + outcome * 0x40 + place
 }

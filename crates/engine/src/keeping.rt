@@ -4,8 +4,6 @@ use crate::flags::raise;
 use crate::state::Record;
 use ring::Ring;
 ghost use mathlib.Core.Path.{_≡_};
-ghost use Prim.Native.Nat.{_≤_};
-ghost use Rattle.ring.specs.Rings.{Fit};
 ghost use Rattle.engine.specs.Keeping.{keepRule, CanKeep};
 
 pub enum Slot {

@@ -35,7 +35,7 @@ pub fn clear_flags(s: State, status: Record, mem: &[u32], mask: u32) -> Cleared
     }
 }
 
-// How a ring stands: places count from 0 in their section or the shared part.
+// How a ring stands. The first place of a section, and of the shared part, is 0.
 pub struct RingStatus {
     pub fill: u32,
     pub oldest: u32,

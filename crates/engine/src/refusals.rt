@@ -18,3 +18,9 @@ pub enum Reply {
     Done,
     Refused(Refusal),
 }
+
+// What is found against a call before anything is done: nothing, or the refusal of the lowest number.
+pub enum Judged {
+    Allowed,
+    Refused(Refusal),
+}

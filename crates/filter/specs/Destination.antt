@@ -17,7 +17,7 @@ use Rattle.filter.specs.declared.Reason.the-variants.{Remote, Reject, No
 use Rattle.filter.specs.declared.Destination.{Destination}
 use Rattle.filter.specs.declared.Destination.the-variants.{Fifo, Buffer, Discarded}
 
--- where a frame goes, in the paper's numbers, with the index of the element that matched, if one did
+-- where a frame goes, with the index of the element that matched, if one did. FIFOs and buffers have the paper's numbers, reasons those below
 pub data Goes : Type 0 where
   -- to FIFO 0 or 1; whether with priority
   toFifo : ℕ → Bool → Matched → Goes
@@ -26,7 +26,7 @@ pub data Goes : Type 0 where
   -- the reason's number
   discarded : ℕ → Matched → Goes
 
--- the reasons' numbers
+-- the reasons, numbered in the order in which document 01 lists them
 abbrev pub reason : Reason → ℕ
 reason Remote = 0
 reason Reject = 1
@@ -46,7 +46,7 @@ meaning (Discarded why m) = discarded (reason why) m
 abbrev pub remoteOut : ℕ → Bool → Bool
 remoteOut gfc xtd = eqb (pick xtd (bits 0 0 gfc) (bits 1 1 gfc)) 1
 
--- 2: what becomes of frames that no element matches, ANFS, or ANFE of 29 bits: 0 FIFO 0, 1 FIFO 1, 2 and 3 discard
+-- 2: the field for frames that no element matches: ANFS, or ANFE of 29 bits. 0 and 1 name a FIFO, and the others drop the frame
 abbrev pub nonMatching : ℕ → Bool → ℕ
 nonMatching gfc xtd = pick xtd (bits 3 2 gfc) (bits 5 4 gfc)
 
@@ -65,7 +65,7 @@ rxBuffer id2 buffers newdata i =
     (pick (isSet newdata (bits 5 0 id2)) (discarded (reason Locked) (Filter i))
     (toBuffer (bits 5 0 id2) i)))
 
--- 4: 1 FIFO 0; 2 FIFO 1; 3 reject; 4 priority, not stored; 5 and 6 priority and FIFO 0 or 1; 7 Rx buffer. 0 never matches
+-- 4: what the action of the element that matched does. An element of action 0 never matches, so what is left for the last case is 7
 unfoldable pub byAction : ℕ → ℕ → ℕ → ℕ → ℕ → Goes
 byAction action id2 buffers newdata i =
     pick (eqb action 1) (toFifo 0 false (Filter i))

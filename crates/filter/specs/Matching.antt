@@ -18,7 +18,7 @@ inRange e x = leb (e .id1) x && leb x (e .id2)
 abbrev pub eitherOf : FilterElement → ℕ → Bool
 eitherOf e x = eqb x (e .id1) || eqb x (e .id2)
 
--- equal to ID1 at the bits set in ID2
+-- no difference from ID1 at the places where ID2 has a 1
 abbrev pub atSetBits : FilterElement → ℕ → Bool
 atSetBits e x = eqb (bitAnd x (e .id2)) (bitAnd (e .id1) (e .id2))
 

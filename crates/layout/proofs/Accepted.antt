@@ -3,7 +3,7 @@
 use Prim.Native.Nat.{ℕ, zero, suc, _+_, _-_, _≤_, _<_, min, max}
 use mathlib.Core.Path.{_≡_, refl, sym, ap, ap₂, _∙_}
 use mathlib.Core.Bool.{Bool, true, false, not, _&&_, _||_}
-use mathlib.Core.List.{List, [], _∷_}
+use mathlib.Core.List.{List}
 use mathlib.Core.Logic.{_⊎_, inl, inr, ⊎-elim}
 use borrow.Author.Tests.{eqb-true, eq-eqb, ltb-true, ltb-false, le-ltb, leb-true, leb-false, not-false}
 use native.Mathlib.Omega.{arith}
@@ -20,7 +20,7 @@ use Rattle.registers.specs.Kinds.{sidfc, xidfc, rxfc, rxbc, rxesc, txefc, txbc,
 use Rattle.registers.specs.Given.{allNamed}
 use Rattle.registers.specs.declared.Registers.{Registers}
 use Rattle.layout.specs.Sections.{none, sectionsOf}
-use Rattle.layout.specs.Verdict.{Refusal, names, over, firstWith, countRule, txRule, end, past, endRule, shares, partner, hasPartner, pairRule, rules, verdict}
+use Rattle.layout.specs.Verdict.{names, over, firstWith, countRule, txRule, end, past, endRule, shares, partner, hasPartner, pairRule, rules, verdict}
 use Rattle.layout.specs.Legal.{Named, Counted, Has, Legal}
 use Rattle.layout.specs.Promises.{AcceptedIsLegal}
 use Rattle.layout.specs.declared.sections.Section.{Section}

@@ -5,11 +5,11 @@ use mathlib.Core.Path.{_≡_, sym, ap, _∙_}
 use mathlib.Core.Bool.{Bool, true, false}
 use mathlib.Core.List.{List, [], _∷_}
 use lib.ListN.{replicate}
-use Rattle.words.specs.Rules.{Ruling, isAllowed}
+use Rattle.words.specs.Rules.{isAllowed}
 use Rattle.words.proofs.Rulings.{is-allowed, settle-allowed, settle-refused}
 use Rattle.registers.specs.declared.Registers.{Registers}
 use Rattle.layout.specs.Sections.{none, sectionsOf}
-use Rattle.layout.specs.Verdict.{Refusal, meaning, verdict, reported}
+use Rattle.layout.specs.Verdict.{meaning, verdict, reported}
 use Rattle.layout.specs.declared.sections.Section.{Section}
 use Rattle.layout.specs.declared.check.Verdict.{Verdict}
 use Rattle.layout.proofs.Accepted.{accepted-is-legal}

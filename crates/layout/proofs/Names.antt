@@ -1,6 +1,6 @@
 -- The sections that a refused start names are the first such.
 -- Assumes nothing.
-use Prim.Native.Nat.{ℕ, zero, suc, _+_, _-_, _≤_, _<_}
+use Prim.Native.Nat.{ℕ, zero, suc, _+_, _-_, _<_}
 use mathlib.Core.Path.{_≡_, refl, sym, ap, _∙_}
 use mathlib.Core.Bool.{Bool, true, false, not}
 use mathlib.Core.Logic.{⊎-elim}
@@ -17,7 +17,7 @@ use Rattle.registers.specs.Given.{allNamed}
 use Rattle.registers.specs.declared.Registers.{Registers}
 use Rattle.layout.specs.Sections.{none, sectionsOf}
 use Rattle.layout.specs.Verdict.{Refusal, names, over, firstWith, end, past, shares, partner, hasPartner, rules, verdict}
-use Rattle.layout.specs.Promises.{FirstOver, CountNamesFirst, FirstPast, EndNamesFirst, FirstPair, OverlapNamesFirst}
+use Rattle.layout.specs.Promises.{CountNamesFirst, EndNamesFirst, OverlapNamesFirst}
 use Rattle.layout.proofs.Table.{Within, has-within, within-has, empty-or-some}
 use Rattle.layout.proofs.Accepted.{apart-words, shared-word, no-partner, verdict-rules}
 

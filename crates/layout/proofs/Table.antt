@@ -8,7 +8,7 @@ use mathlib.Core.Logic.{_⊎_, inl, inr}
 use borrow.Author.Tests.{eqb-true, eqb-false}
 use native.Mathlib.Nat.{mul-le-mul-right}
 use native.Mathlib.Omega.{arith}
-use lib.Dec.{eqb, leb, eqb→eq, leb→le}
+use lib.Dec.{eqb, eqb→eq}
 use lib.ListN.{getD, List·getD-map}
 use Rattle.words.specs.Choice.{pick}
 use Rattle.words.specs.Fields.{bits}

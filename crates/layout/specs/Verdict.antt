@@ -41,7 +41,7 @@ firstWith n fault = refuseIf (ltb (leastFrom fault 0 7) 7) (names n (leastFrom f
 abbrev pub memoryRule : ℕ → ℕ → Ruling Refusal
 memoryRule given words = refuseIf (not (eqb words given)) (names 10 7 7)
 
--- 11: a bit that must be 0 is set
+-- 11: some register has a bit set outside its named fields
 abbrev pub bitsRule : Registers → Ruling Refusal
 bitsRule r = refuseIf (not (allNamed r)) (names 11 7 7)
 
@@ -56,7 +56,7 @@ countRule r = firstWith 12 (over r)
 abbrev pub txRule : Registers → Ruling Refusal
 txRule r = refuseIf (ltb 32 (bits 21 16 (r .txbc .word) + bits 29 24 (r .txbc .word))) (names 13 7 7)
 
--- 14: a section ends past the memory; names the first
+-- 14: the first section whose end is beyond the memory
 abbrev pub end : Section → ℕ
 end s = s .start .0 + s .words
 
@@ -89,6 +89,6 @@ rules given r words = memoryRule given words ∷ bitsRule r ∷ countRule r ∷ 
 unfoldable pub verdict : ℕ → Registers → ℕ → Ruling Refusal
 verdict given r words = first (rules given r words)
 
--- the sections that a start reports: those of the registers where it accepts
+-- the sections that a start reports: those of the registers where it accepts, and seven without words where it refuses
 abbrev pub reported : Ruling Refusal → Registers → List Section
 reported v r = settle v (sectionsOf r) (λ n. replicate 7 none)

@@ -7,7 +7,7 @@ use registers::Registers;
 use registers::kinds::Txbc;
 ghost use mathlib.Core.Path.{_≡_};
 ghost use mathlib.Core.Bool.{false};
-ghost use Prim.Native.Nat.{_≤_, min, max};
+ghost use Prim.Native.Nat.{min, max};
 ghost use lib.ListN.{getD};
 ghost use Rattle.words.specs.Least.{leastFrom};
 ghost use Rattle.words.specs.Rules.{isAllowed};

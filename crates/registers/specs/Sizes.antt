@@ -1,6 +1,6 @@
 -- The eight element sizes, by their code.
 use Prim.Native.Nat.{ℕ}
-use mathlib.Core.List.{List, [], _∷_}
+use mathlib.Core.List.{[], _∷_}
 use lib.ListN.{getD}
 
 -- data bytes

@@ -2,7 +2,7 @@
 // A field is `word / AT % SIZE`; `new` puts a word together from its fields.
 use crate::WordAddress;
 ghost use mathlib.Core.Path.{_≡_};
-ghost use Prim.Native.Nat.{_^_, _<_};
+ghost use Prim.Native.Nat.{_+_, _*_, _^_, _<_};
 ghost use Rattle.words.specs.Fields.{bits, onlyNamed};
 ghost use Rattle.registers.specs.Kinds.{sidfc, xidfc, rxfc, rxbc, rxesc, txefc, txbc, txesc, gfc, xidam};
 
@@ -30,7 +30,7 @@ impl Sidfc {
 
     pub fn new(count: u32, start: WordAddress) -> Self
         requires { ⌜ (count < 2 ^ 8) × (start .0 < 2 ^ 14) ⌝ }
-        ensures { λ r. ⌜ (bits 23 16 (r .word) ≡ count) × (bits 15 2 (r .word) ≡ start .0) ⌝ }
+        ensures { λ r. ⌜ (r .word ≡ count * 2 ^ 16 + start .0 * 2 ^ 2) × (bits 23 16 (r .word) ≡ count) × (bits 15 2 (r .word) ≡ start .0) ⌝ }
     {
         Self {
             word: count * Self::COUNT_AT + start.0 * Self::START_AT,
@@ -80,7 +80,7 @@ impl Xidfc {
 
     pub fn new(count: u32, start: WordAddress) -> Self
         requires { ⌜ (count < 2 ^ 7) × (start .0 < 2 ^ 14) ⌝ }
-        ensures { λ r. ⌜ (bits 22 16 (r .word) ≡ count) × (bits 15 2 (r .word) ≡ start .0) ⌝ }
+        ensures { λ r. ⌜ (r .word ≡ count * 2 ^ 16 + start .0 * 2 ^ 2) × (bits 22 16 (r .word) ≡ count) × (bits 15 2 (r .word) ≡ start .0) ⌝ }
     {
         Self {
             word: count * Self::COUNT_AT + start.0 * Self::START_AT,
@@ -136,7 +136,7 @@ impl Rxfc {
 
     pub fn new(overwrite: u32, watermark: u32, count: u32, start: WordAddress) -> Self
         requires { ⌜ (overwrite < 2 ^ 1) × (watermark < 2 ^ 7) × (count < 2 ^ 7) × (start .0 < 2 ^ 14) ⌝ }
-        ensures { λ r. ⌜ (bits 31 31 (r .word) ≡ overwrite) × (bits 30 24 (r .word) ≡ watermark) × (bits 22 16 (r .word) ≡ count) × (bits 15 2 (r .word) ≡ start .0) ⌝ }
+        ensures { λ r. ⌜ (r .word ≡ overwrite * 2 ^ 31 + watermark * 2 ^ 24 + count * 2 ^ 16 + start .0 * 2 ^ 2) × (bits 31 31 (r .word) ≡ overwrite) × (bits 30 24 (r .word) ≡ watermark) × (bits 22 16 (r .word) ≡ count) × (bits 15 2 (r .word) ≡ start .0) ⌝ }
     {
         Self {
             word: overwrite * Self::OVERWRITE_AT
@@ -195,7 +195,7 @@ impl Rxbc {
 
     pub fn new(start: WordAddress) -> Self
         requires { ⌜ start .0 < 2 ^ 14 ⌝ }
-        ensures { λ r. ⌜ bits 15 2 (r .word) ≡ start .0 ⌝ }
+        ensures { λ r. ⌜ (r .word ≡ start .0 * 2 ^ 2) × (bits 15 2 (r .word) ≡ start .0) ⌝ }
     {
         Self {
             word: start.0 * Self::START_AT,
@@ -239,7 +239,7 @@ impl Rxesc {
 
     pub fn new(buffers: u32, fifo1: u32, fifo0: u32) -> Self
         requires { ⌜ (buffers < 2 ^ 3) × (fifo1 < 2 ^ 3) × (fifo0 < 2 ^ 3) ⌝ }
-        ensures { λ r. ⌜ (bits 10 8 (r .word) ≡ buffers) × (bits 6 4 (r .word) ≡ fifo1) × (bits 2 0 (r .word) ≡ fifo0) ⌝ }
+        ensures { λ r. ⌜ (r .word ≡ buffers * 2 ^ 8 + fifo1 * 2 ^ 4 + fifo0) × (bits 10 8 (r .word) ≡ buffers) × (bits 6 4 (r .word) ≡ fifo1) × (bits 2 0 (r .word) ≡ fifo0) ⌝ }
     {
         Self {
             word: buffers * Self::BUFFERS_AT + fifo1 * Self::FIFO1_AT + fifo0 * Self::FIFO0_AT,
@@ -299,7 +299,7 @@ impl Txefc {
 
     pub fn new(watermark: u32, count: u32, start: WordAddress) -> Self
         requires { ⌜ (watermark < 2 ^ 6) × (count < 2 ^ 6) × (start .0 < 2 ^ 14) ⌝ }
-        ensures { λ r. ⌜ (bits 29 24 (r .word) ≡ watermark) × (bits 21 16 (r .word) ≡ count) × (bits 15 2 (r .word) ≡ start .0) ⌝ }
+        ensures { λ r. ⌜ (r .word ≡ watermark * 2 ^ 24 + count * 2 ^ 16 + start .0 * 2 ^ 2) × (bits 29 24 (r .word) ≡ watermark) × (bits 21 16 (r .word) ≡ count) × (bits 15 2 (r .word) ≡ start .0) ⌝ }
     {
         Self {
             word: watermark * Self::WATERMARK_AT
@@ -363,7 +363,7 @@ impl Txbc {
 
     pub fn new(queue: u32, shared: u32, dedicated: u32, start: WordAddress) -> Self
         requires { ⌜ (queue < 2 ^ 1) × (shared < 2 ^ 6) × (dedicated < 2 ^ 6) × (start .0 < 2 ^ 14) ⌝ }
-        ensures { λ r. ⌜ (bits 30 30 (r .word) ≡ queue) × (bits 29 24 (r .word) ≡ shared) × (bits 21 16 (r .word) ≡ dedicated) × (bits 15 2 (r .word) ≡ start .0) ⌝ }
+        ensures { λ r. ⌜ (r .word ≡ queue * 2 ^ 30 + shared * 2 ^ 24 + dedicated * 2 ^ 16 + start .0 * 2 ^ 2) × (bits 30 30 (r .word) ≡ queue) × (bits 29 24 (r .word) ≡ shared) × (bits 21 16 (r .word) ≡ dedicated) × (bits 15 2 (r .word) ≡ start .0) ⌝ }
     {
         Self {
             word: queue * Self::QUEUE_AT
@@ -420,7 +420,7 @@ impl Txesc {
 
     pub fn new(size: u32) -> Self
         requires { ⌜ size < 2 ^ 3 ⌝ }
-        ensures { λ r. ⌜ bits 2 0 (r .word) ≡ size ⌝ }
+        ensures { λ r. ⌜ (r .word ≡ size) × (bits 2 0 (r .word) ≡ size) ⌝ }
     {
         Self {
             word: size * Self::SIZE_AT,
@@ -468,7 +468,7 @@ impl Gfc {
 
     pub fn new(anfs: u32, anfe: u32, rrfs: u32, rrfe: u32) -> Self
         requires { ⌜ (anfs < 2 ^ 2) × (anfe < 2 ^ 2) × (rrfs < 2 ^ 1) × (rrfe < 2 ^ 1) ⌝ }
-        ensures { λ r. ⌜ (bits 5 4 (r .word) ≡ anfs) × (bits 3 2 (r .word) ≡ anfe) × (bits 1 1 (r .word) ≡ rrfs) × (bits 0 0 (r .word) ≡ rrfe) ⌝ }
+        ensures { λ r. ⌜ (r .word ≡ anfs * 2 ^ 4 + anfe * 2 ^ 2 + rrfs * 2 ^ 1 + rrfe) × (bits 5 4 (r .word) ≡ anfs) × (bits 3 2 (r .word) ≡ anfe) × (bits 1 1 (r .word) ≡ rrfs) × (bits 0 0 (r .word) ≡ rrfe) ⌝ }
     {
         Self {
             word: anfs * Self::ANFS_AT
@@ -525,7 +525,7 @@ impl Xidam {
 
     pub fn new(mask: u32) -> Self
         requires { ⌜ mask < 2 ^ 29 ⌝ }
-        ensures { λ r. ⌜ bits 28 0 (r .word) ≡ mask ⌝ }
+        ensures { λ r. ⌜ (r .word ≡ mask) × (bits 28 0 (r .word) ≡ mask) ⌝ }
     {
         Self {
             word: mask * Self::MASK_AT,

@@ -4,7 +4,7 @@ use mathlib.Core.Bool.{Bool, _&&_}
 use lib.Dec.{ltb, leb}
 use Rattle.ring.specs.declared.Ring.{Ring}
 
--- a ring that can be one of this size: at size 0 both its numbers are 0
+-- a ring that can be one of this size: at size 0 both its numbers are 0. Sizes of 2 ^ 31 and more are left out, so that sums of places fit 32 bits
 pub record Fit (r : Ring) (size : ℕ) : Type 0 where
   pub small : size < 2 ^ 31
   pub place : r .oldest < max 1 size
@@ -22,7 +22,7 @@ noneHeld = record { oldest = 0; fill = 0 }
 unfoldable pub placeAfter : Ring → ℕ → ℕ → ℕ
 placeAfter r size n = (r .oldest + n) % size
 
--- where the next one goes
+-- where the next one goes; 0 for a ring that fits size 0
 abbrev pub putPlace : Ring → ℕ → ℕ
 putPlace r size = placeAfter r size (r .fill)
 

@@ -1,18 +1,18 @@
 -- The laws of bits, once over the width: what setting and clearing does to each, the lowest clear one, and that the bits make the word.
 -- Assumes nothing.
-use mathlib.Core.Path.{_≡_, refl, sym, ap, ap₂, _∙_, subst}
-use Prim.Native.Nat.{ℕ, zero, suc, _+_, _-_, _*_, _^_, _/_, _%_, _<_, _≤_, zero-le, suc-le-suc, max, min}
-use native.Mathlib.Nat.{mod-lt, max-le, max-zero, zero-max, pow-suc, one-mul, zero-lt-suc, not-suc-le-zero, le-of-suc-le-suc, div-one, zero-div, lt-of-le-of-lt, min-le-left}
-use native.Mathlib.Numerals.{add-one, one-add}
+use mathlib.Core.Path.{_≡_, refl, sym, ap, _∙_}
+use Prim.Native.Nat.{ℕ, zero, suc, _-_, _*_, _^_, _/_, _%_, _<_, _≤_, suc-le-suc, max, min}
+use native.Mathlib.Nat.{mod-lt, max-le, max-zero, pow-suc, one-mul, zero-lt-suc, not-suc-le-zero, le-of-suc-le-suc, div-one, zero-div, lt-of-le-of-lt, min-le-left}
+use native.Mathlib.Numerals.{one-add}
 use native.Mathlib.Omega.{arith}
 use mathlib.Core.Bool.{Bool, true, false}
 use borrow.Author.Tests.{ltb-true, ltb-false}
 use lib.Dec.{ltb}
 use lib.Arith.{digits-mod}
 use lib.Bits.{bitOr, bitAnd, and-shr, and-step, and-le-l, or-shr, or-step, or-lt}
-use lib.Pow.{pow-lt, pow-pos, shl-exact, shr-shr}
+use lib.Pow.{pow-lt, shl-exact, shr-shr}
 use lib.Count.{trailingZeros, under, trailing-le}
-use Rattle.words.specs.Bits.{bit, isSet, withBit, withoutMask, withoutBit, LowestClear}
+use Rattle.words.specs.Bits.{bit, withBit, withoutMask, withoutBit, LowestClear}
 
 pub bit-zero : (w : ℕ) → bit w 0 ≡ w % 2
 bit-zero w = ap (λ (x : ℕ). x % 2) (div-one w)

@@ -1,14 +1,14 @@
 -- The number of set bits of a word is how many of its bits are set.
 -- Assumes nothing.
 use mathlib.Core.Path.{_≡_, refl, sym, ap, ap₂, _∙_}
-use mathlib.Core.Bool.{Bool, true, false}
-use Prim.Native.Nat.{ℕ, zero, suc, _+_, _*_, _^_, _/_, _%_, _<_, _≤_}
+use mathlib.Core.Bool.{Bool}
+use Prim.Native.Nat.{ℕ, zero, suc, _+_, _^_, _/_, _%_, _<_}
 use native.Mathlib.Nat.{pow-suc}
 use native.Mathlib.Omega.{arith}
 use lib.Count.{ones, ones-step}
 use Rattle.words.specs.Choice.{pick}
-use Rattle.words.specs.Bits.{bit, isSet, howMany}
-use Rattle.words.proofs.Bits.{bit-lt, bit-zero, bit-suc}
+use Rattle.words.specs.Bits.{isSet, howMany}
+use Rattle.words.proofs.Bits.{bit-zero, bit-suc}
 
 -- counted from the lowest bit on
 up : (p : ℕ → Bool) (n : ℕ) → howMany p (suc n) ≡ pick (p 0) 1 0 + howMany (λ k. p (suc k)) n

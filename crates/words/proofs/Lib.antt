@@ -2,6 +2,7 @@ pub mod Choices
 pub mod Tables
 pub mod Rulings
 pub mod Lowest
+pub mod Bests
 pub mod Bits
 pub mod Counting
 pub mod Unnamed

@@ -1,11 +1,11 @@
 -- A part of a list with another part replaced: the replaced part is what was put there, and a part beside it is as it was.
 -- Assumes nothing.
-use mathlib.Core.Path.{_≡_, refl, sym, ap, _∙_}
+use mathlib.Core.Path.{_≡_, sym, _∙_}
 use mathlib.Core.List.{List}
 use Prim.Native.Nat.{ℕ, _+_, _≤_, _<_}
 use native.Mathlib.Omega.{arith}
-use lib.ListN.{length, getD, take, drop, length-take, length-drop}
-use lib.Seq.{ext-getD, getD-take, getD-drop, length-take-le}
+use lib.ListN.{length, getD, length-take, length-drop}
+use lib.Seq.{ext-getD, getD-take, getD-drop}
 use Rattle.words.specs.Runs.{part, splice}
 use Rattle.words.proofs.Runs.{splice-length, splice-inside, splice-before, splice-after}
 

@@ -1,13 +1,13 @@
 -- The laws of a run of values and of a spliced list.
 -- Assumes nothing.
-use mathlib.Core.Path.{_≡_, refl, sym, ap, _∙_, subst}
+use mathlib.Core.Path.{_≡_, refl, sym, ap, _∙_}
 use mathlib.Core.List.{List, [], _∷_, _++_, append-assoc, append-nil}
-use Prim.Native.Nat.{ℕ, zero, suc, _+_, _-_, _<_, _≤_, zero-le, suc-le-suc}
-use native.Mathlib.Nat.{add-zero, zero-add, add-suc, suc-add, not-suc-le-zero, le-of-suc-le-suc, add-assoc}
+use Prim.Native.Nat.{ℕ, zero, suc, _+_, _-_, _<_, _≤_}
+use native.Mathlib.Nat.{add-zero, zero-add, not-suc-le-zero, le-of-suc-le-suc}
 use native.Mathlib.Numerals.{add-one}
 use native.Mathlib.Omega.{arith}
-use lib.ListN.{length, getD, take, drop, set, length-append, length-take, length-drop, length-set, take-append-drop, List·getD-append}
-use lib.Seq.{length-take-le, drop-cons, set-at, append-snoc, take-at, drop-at, getD-append-add, getD-take, getD-drop, sets, sets-eq, take-append-seam}
+use lib.ListN.{length, getD, take, drop, set, length-append, length-drop, length-set, take-append-drop, List·getD-append}
+use lib.Seq.{length-take-le, drop-cons, set-at, append-snoc, getD-append-add, getD-take, getD-drop, sets, sets-eq}
 use Rattle.words.specs.Runs.{run, splice}
 
 module _ (f : ℕ → ℕ) where

@@ -1,13 +1,13 @@
 -- A word is what its kind's mask keeps of it exactly where each bit in no named field is 0: one law for every kind of register.
 -- Assumes nothing.
 use Prim.Native.Nat.{ℕ, zero, suc, _/_, _%_, _^_, _≤_, _<_, min}
-use mathlib.Core.Path.{_≡_, refl, sym, ap, subst, _∙_}
-use mathlib.Core.Bool.{Bool, true, false, not, _&&_, _||_, Bool·beq, and-false}
+use mathlib.Core.Path.{_≡_, refl, sym, ap, _∙_}
+use mathlib.Core.Bool.{Bool, true, false, _&&_, Bool·beq, and-false}
 use mathlib.Core.List.{List, [], _∷_}
-use mathlib.Core.Logic.{_↔_, ⊎-elim}
+use mathlib.Core.Logic.{_↔_}
 use native.Mathlib.Nat.{div-eq-of-lt, lt-of-lt-of-le}
 use native.Mathlib.Omega.{arith}
-use borrow.Author.Tests.{eq-eqb, eqb-false, ltb-true, ltb-false, lt-leb}
+use borrow.Author.Tests.{eqb-false, ltb-true, ltb-false, lt-leb}
 use lib.Arith.{bin-ind}
 use lib.Bits.{bitAnd, and-step, and-zero-l}
 use lib.Dec.{T, eqb, ltb, leb, lit<}

@@ -1,5 +1,5 @@
 -- The lowest number that passes a test.
-use Prim.Native.Nat.{ℕ, zero, suc, _+_}
+use Prim.Native.Nat.{ℕ, zero, suc}
 use mathlib.Core.Bool.{Bool}
 use Rattle.words.specs.Choice.{pick}
 

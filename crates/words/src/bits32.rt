@@ -1,6 +1,6 @@
 // Single bits and masks of a word of 32 bits.
 ghost use mathlib.Core.Path.{_≡_};
-ghost use Prim.Native.Nat.{_^_, _≤_, _<_};
+ghost use Prim.Native.Nat.{_≤_, _<_};
 ghost use lib.Bits.{bitOr};
 ghost use lib.Count.{ones};
 ghost use Rattle.words.specs.Bits.{isSet, withBit, withoutBit, withoutMask, LowestClear};

@@ -1,0 +1,9 @@
+pub mod Tallies
+pub mod Balances
+pub mod Stores
+pub mod Holding
+pub mod Arrivals
+pub mod Places
+pub mod Releases
+pub mod Seen
+pub mod Runs

@@ -1,0 +1,11 @@
+pub mod Judgements
+pub mod Calls
+pub mod Notes
+pub mod Stores
+pub mod Takes
+pub mod Outcomes
+pub mod OneElement
+pub mod StillFit
+pub mod Refusals
+pub mod OneOutcome
+pub mod OwnWords

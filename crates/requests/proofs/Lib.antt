@@ -1,0 +1,11 @@
+pub mod Lists
+pub mod Books
+pub mod Places
+pub mod Pending
+pub mod Circles
+pub mod Holding
+pub mod Steps
+pub mod Requesting
+pub mod Choosing
+pub mod Reporting
+pub mod Fitting

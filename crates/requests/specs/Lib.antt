@@ -1,0 +1,6 @@
+pub mod Lists
+pub mod Requests
+pub mod Balance
+pub mod Expected
+pub mod Standing
+pub mod Promises

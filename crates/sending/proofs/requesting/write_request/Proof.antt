@@ -1,0 +1,27 @@
+use Rattle.sending.proofs.Requests.{request-written}
+use borrow.Author.Needs.{needs}
+use Rattle.sending.proofs.requesting.write_request.Statement.{statement}
+use Rattle.sending.proofs.requesting.write_request.Tie as tie
+
+place-in-requires : tie.Need-place-in-requires
+place-in-requires c κs = search needs
+
+sub-store-tx : tie.Need-sub-store-tx
+sub-store-tx c = search needs
+
+cast-store-tx : tie.Need-cast-store-tx
+cast-store-tx c = search needs
+
+store-tx-requires : tie.Need-store-tx-requires
+store-tx-requires c κs = search needs
+
+same-length : tie.Need-same-length
+same-length c = search needs
+
+returns : tie.Need-returns
+returns c = search (request-written, needs)
+
+pub write-request-spec : {M : Type 1} → statement M
+write-request-spec =
+    tie.close
+    (tie.spec place-in-requires sub-store-tx cast-store-tx store-tx-requires same-length returns)
