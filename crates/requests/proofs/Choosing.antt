@@ -23,9 +23,9 @@ use Rattle.engine.specs.Answers.{refuses, answers, wrongOutput}
 use Rattle.engine.specs.Areas.{dedicated, txCount, isQueue, txArea, dataWords, placeIn}
 use Rattle.engine.specs.Fitness.{unfit}
 use Rattle.engine.specs.declared.state.State.{State}
-use Rattle.sending.specs.Buffers.{isPending, headerOf}
-use Rattle.sending.specs.Choosing
-use Rattle.sending.specs.Choosing.{rankAt, choice, send, ChoiceOutcome, chosen, choiceRule}
+use Rattle.choosing.specs.Buffers.{isPending, headerOf}
+use Rattle.choosing.specs.Choosing
+use Rattle.choosing.specs.Choosing.{rankAt, choice, send, ChoiceOutcome, chosen, choiceRule}
 use Rattle.requests.specs.Lists.{tally}
 use Rattle.requests.specs.Requests.{Book, isBuffer, hasPending, pendingIn}
 use Rattle.requests.specs.Expected.{inFifo, oldestShared, isCandidate, bestOf, formSent, nextOf, expectChoice}

@@ -34,10 +34,10 @@ use Rattle.engine.specs.declared.keeping.Slot.the-variants.{At, Lost}
 use Rattle.engine.specs.declared.state.State.{State}
 use Rattle.engine.specs.declared.state.Record.{Record}
 use Rattle.engine.proofs.Rooms.{event-roomy}
-use Rattle.sending.specs.Buffers.{noBuffer, inSharedFifo, headerOf}
-use Rattle.sending.specs.Choosing
-use Rattle.sending.specs.Choosing.{choice}
-use Rattle.sending.specs.Reporting.{ReportOutcome, isChosen, sentState, sentStatus, eventKeeper, reported, reportRule}
+use Rattle.choosing.specs.Buffers.{noBuffer, inSharedFifo, headerOf}
+use Rattle.choosing.specs.Choosing
+use Rattle.choosing.specs.Choosing.{choice}
+use Rattle.choosing.specs.Reporting.{ReportOutcome, isChosen, sentState, sentStatus, eventKeeper, reported, reportRule}
 use Rattle.requests.specs.Requests.{Request, Book, isBuffer, noteSent, bookReport, pendingIn}
 use Rattle.requests.specs.Balance.{isShared}
 use Rattle.requests.specs.Expected.{isCandidate, bestOf, expectReport, eventFor, nextOf, expectChoice}

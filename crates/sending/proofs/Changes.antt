@@ -1,23 +1,20 @@
 -- What each call changes: a refused one nothing, and an accepted one its own words of the memory.
 -- Assumes nothing.
-use Prim.Native.Nat.{ℕ, _+_, _-_, _≤_, _<_}
-use mathlib.Core.Path.{_≡_, refl, sym, ap, _∙_, subst}
-use mathlib.Core.Bool.{Bool, true, false}
+use Prim.Native.Nat.{ℕ, _+_, _≤_, _<_}
+use mathlib.Core.Path.{_≡_, refl, sym, _∙_, subst}
+use mathlib.Core.Bool.{Bool}
 use mathlib.Core.List.{List}
 use mathlib.Core.Logic.{_⊎_, inl, inr}
 use native.Mathlib.Omega.{arith}
-use lib.ListN.{length, getD}
+use lib.ListN.{length}
 use Rattle.words.specs.Best.{Best, nobody, somebody}
-use Rattle.words.specs.Choice.{pick}
-use Rattle.words.specs.Runs.{splice}
 use Rattle.ring.specs.declared.Ring.{Ring}
 use Rattle.frame.specs.declared.Frame.{Frame}
 use Rattle.element.specs.Elements.{txElement, eventElement}
 use Rattle.element.specs.Word0.{word0}
 use Rattle.element.specs.Word1.{txWord1}
-use Rattle.element.specs.Promises.{Placed}
 use Rattle.element.proofs.RoundTrip.{element-placed, event-placed}
-use Rattle.engine.specs.Answers.{Says, refuses, answers, done}
+use Rattle.engine.specs.Answers.{refuses, answers, done}
 use Rattle.engine.specs.Areas.{dedicated, txArea, eventArea, eventSize, dataWords, placeIn}
 use Rattle.engine.specs.Fitness.{Sound}
 use Rattle.engine.specs.Keeping.{keepRule, slotMemory}
@@ -27,14 +24,14 @@ use Rattle.engine.specs.declared.state.State.{State}
 use Rattle.engine.specs.declared.state.Record.{Record}
 use Rattle.engine.proofs.Rooms.{place-room, tx-roomy, event-roomy}
 use Rattle.engine.proofs.Sounds.{sound-of}
-use Rattle.sending.specs.Buffers.{freePlace, sharedAfter, headerOf}
+use Rattle.choosing.specs.Buffers.{freePlace, sharedAfter, headerOf}
 use Rattle.sending.specs.Cancelling.{CancelOutcome}
-use Rattle.sending.specs.Choosing.{ChoiceOutcome, chosen, choice, sentFrame}
+use Rattle.choosing.specs.Choosing.{ChoiceOutcome, chosen, choice, sentFrame}
 use Rattle.sending.specs.Events.{AcknowledgeOutcome}
-use Rattle.sending.specs.Reporting.{ReportOutcome, sentStatus, eventKeeper, reported, eventKept, SlotIn}
+use Rattle.choosing.specs.Reporting.{ReportOutcome, sentStatus, eventKeeper, reported, eventKept, SlotIn}
 use Rattle.sending.specs.Requesting.{RequestOutcome, requestIn, Requestable}
 use Rattle.sending.specs.Promises.{OnlyAt, OneElement, CallsChangeOwn, RefusedLeavesAll}
-use Rattle.sending.proofs.Reports.{kept-in}
+use Rattle.choosing.proofs.Reports.{kept-in}
 use Rattle.sending.proofs.Ways.{dedicated-ways, shared-ways, cancel-ways, choice-ways, report-ways, sent-ways, acknowledge-ways}
 
 -- an answer is no refusal

@@ -1,49 +1,42 @@
--- The cases of what is found against a call, one law each, and what is known where nothing is.
+-- The cases of what is found against calls 7, 8, 9, 12 and 13, one law each.
 -- Assumes nothing.
 use Prim.Native.Nat.{ℕ, _+_, _≤_, _<_}
-use mathlib.Core.Path.{_≡_, refl, sym, ap, _∙_}
+use mathlib.Core.Path.{_≡_, sym, _∙_}
 use mathlib.Core.Bool.{Bool, true, false, not, _&&_}
-use mathlib.Core.List.{[], _∷_}
-use borrow.Author.Tests.{le-leb, lt-leb, eq-eqb, ne-eqb}
+use borrow.Author.Tests.{le-leb, lt-leb}
 use native.Mathlib.Omega.{arith}
-use lib.Dec.{leb, eqb}
+use lib.Dec.{leb}
 use Rattle.words.specs.Bits.{isSet}
-use Rattle.words.specs.Rules.{Ruling, allowed, refused, refuseIf, first, settle, _orElse_}
-use Rattle.words.proofs.Rulings.{both-allowed, held-off}
 use Rattle.ring.specs.Rings.{Fit, held}
 use Rattle.ring.specs.declared.Ring.{Ring}
 use Rattle.frame.specs.Malformed.{malformed}
 use Rattle.frame.specs.declared.Frame.{Frame}
 use Rattle.engine.specs.Answers.{ruled}
 use Rattle.engine.specs.Areas.{eventSize, dedicated, shared, txCount, isQueue}
-use Rattle.engine.specs.Fitness.{unfit, Sound}
+use Rattle.engine.specs.Fitness.{unfit}
 use Rattle.engine.specs.declared.refusals.Judged.{Judged}
 use Rattle.engine.specs.declared.refusals.Judged.the-variants.{Allowed, Refused}
-use Rattle.engine.specs.declared.refusals.Refusal.the-variants.{Unfit, Malformed, NoSuch, AlreadyPending, InSharedFifo, NotPending, NotHeld, WrongOutput}
+use Rattle.engine.specs.declared.refusals.Refusal.the-variants.{Malformed, NoSuch, AlreadyPending, InSharedFifo, NotPending, NotHeld}
 use Rattle.engine.specs.declared.state.State.{State}
 use Rattle.engine.specs.declared.state.Record.{Record}
 use Rattle.engine.proofs.Sounds.{sound-of}
-use Rattle.sending.specs.Judging.{fitThen, freeRuling, formRuling, pendingRuling, outputRuling, heldRuling}
+use Rattle.choosing.specs.Judging.{fitThen}
+use Rattle.choosing.proofs.Judgements.{fit-rest}
+use Rattle.sending.specs.Judging.{freeRuling, formRuling, pendingRuling, heldRuling}
 
--- ---- 20 first
+-- ---- after 20
 
 module _ (s : State) (r : Record) (words : ℕ) (b : Bool) (e : b ≡ unfit s r words) where
-  pub unfit-first : (rest : Ruling ℕ) → b ≡ true → ruled (Refused Unfit) ≡ fitThen s r words rest
-  unfit-first rest y = simp (← e, y)
-
-  pub fit-rest : (rest : Ruling ℕ) (j : Judged) → b ≡ false → ruled j ≡ rest → ruled j ≡ fitThen s r words rest
-  fit-rest rest j n q = q ∙ sym (simp (← e, n))
-
   module _ (j : Judged) (z : b ≡ false) (buffer n : ℕ) where
     pub dedicated-rest : (f : Frame) (len : ℕ) → n ≡ dedicated (s .regs) → ruled j ≡ freeRuling f len n (s .pending) buffer → ruled j ≡ fitThen s r words (freeRuling f len (dedicated (s .regs)) (s .pending) buffer)
-    dedicated-rest f len q t = fit-rest (freeRuling f len (dedicated (s .regs)) (s .pending) buffer) j z (t ∙ rw q)
+    dedicated-rest f len q t = fit-rest s r words b e (freeRuling f len (dedicated (s .regs)) (s .pending) buffer) j z (t ∙ rw q)
 
     pub cancel-rest : (m : ℕ) (c : Bool) → n ≡ dedicated (s .regs) → m ≡ shared (s .regs) → c ≡ isQueue (s .regs) → ruled j ≡ pendingRuling (n + m) n c (s .pending) buffer
         → ruled j ≡ fitThen s r words (pendingRuling (txCount (s .regs)) (dedicated (s .regs)) (isQueue (s .regs)) (s .pending) buffer)
-    cancel-rest m c q u w t = fit-rest (pendingRuling (txCount (s .regs)) (dedicated (s .regs)) (isQueue (s .regs)) (s .pending) buffer) j z (t ∙ rw (q, u, w))
+    cancel-rest m c q u w t = fit-rest s r words b e (pendingRuling (txCount (s .regs)) (dedicated (s .regs)) (isQueue (s .regs)) (s .pending) buffer) j z (t ∙ rw (q, u, w))
 
     pub event-rest : n ≡ eventSize (s .regs) → ruled j ≡ heldRuling (s .events) n buffer → ruled j ≡ fitThen s r words (heldRuling (s .events) (eventSize (s .regs)) buffer)
-    event-rest q t = fit-rest (heldRuling (s .events) (eventSize (s .regs)) buffer) j z (t ∙ rw q)
+    event-rest q t = fit-rest s r words b e (heldRuling (s .events) (eventSize (s .regs)) buffer) j z (t ∙ rw q)
 
   -- what the calls look at is within its bounds
   pub few-dedicated : b ≡ false → (n : ℕ) → n ≡ dedicated (s .regs) → n ≤ 32
@@ -110,15 +103,6 @@ module _ (count dedicated : ℕ) (queue : Bool) (pending buffer : ℕ) where
 
 pub ruleset pendings = (pending-none, pending-fifo, pending-set, pending-clear)
 
--- ---- call 10
-
-module _ (s : State) (r : Record) (words : ℕ) (b : Bool) (e : b ≡ unfit s r words) (z : b ≡ false) (len : ℕ) where
-  pub output-wrong : (len ≡ 64 → ⊥) → ruled (Refused WrongOutput) ≡ fitThen s r words (outputRuling len)
-  output-wrong n = simp (← e, z, ne-eqb _ _ n)
-
-  pub output-right : len ≡ 64 → ruled Allowed ≡ fitThen s r words (outputRuling len)
-  output-right n = simp (← e, z, eq-eqb _ _ n)
-
 -- ---- calls 12 and 13
 
 module _ (q : Ring) (size place : ℕ) where
@@ -136,52 +120,3 @@ module _ (q : Ring) (size place : ℕ) where
     held-no y = simp (lt-leb _ _ h, ← e, y)
 
 pub ruleset helds = (held-none, held-yes, held-no)
-
--- ---- where nothing is found
-
-module _ (s : State) (r : Record) (words : ℕ) (rest : Ruling ℕ) (j : Judged) (e : ruled j ≡ fitThen s r words rest) (y : j ≡ Allowed) where
-  both : (refuseIf {A = ℕ} (unfit s r words) 20 ≡ allowed) × (rest ≡ allowed)
-  both = both-allowed (refuseIf (unfit s r words) 20) rest (sym e ∙ ap ruled y)
-
-  pub allowed-sound : Sound s words
-  allowed-sound = sound-of s r words (held-off (unfit s r words) 20 (both .0))
-
-  pub rest-allowed : rest ≡ allowed
-  rest-allowed = both .1
-
--- three rules that all allow, and two
-pub all-three : (x y z : Bool) (a b c : ℕ) → first (refuseIf x a ∷ refuseIf y b ∷ refuseIf z c ∷ []) ≡ allowed → (x ≡ false) × (y ≡ false) × (z ≡ false)
-all-three x y z a b c e =
-    let p = both-allowed (refuseIf x a) (first (refuseIf y b ∷ refuseIf z c ∷ [])) e in
-    let q = both-allowed (refuseIf y b) (first (refuseIf z c ∷ [])) (p .1) in
-    let t = both-allowed (refuseIf z c) (first []) (q .1) in
-    (held-off x a (p .0), held-off y b (q .0), held-off z c (t .0))
-
-pub all-two : (x y : Bool) (a b : ℕ) → first (refuseIf x a ∷ refuseIf y b ∷ []) ≡ allowed → (x ≡ false) × (y ≡ false)
-all-two x y a b e =
-    let p = both-allowed (refuseIf x a) (first (refuseIf y b ∷ [])) e in
-    let q = both-allowed (refuseIf y b) (first []) (p .1) in
-    (held-off x a (p .0), held-off y b (q .0))
-
-pub one-rule : (x : Bool) (a : ℕ) → first (refuseIf x a ∷ []) ≡ allowed → x ≡ false
-one-rule x a e = held-off x a (both-allowed (refuseIf x a) (first []) e .0)
-
--- ---- what is made of it
-
-module _ {A B : Type 0} {rule : Ruling A} (b : B) (f : A → B) where
-  pub goes-on : rule ≡ allowed → settle rule b f ≡ b
-  goes-on e = ap (λ (x : Ruling A). settle x b f) e
-
-  pub stops : {a : A} → rule ≡ refused a → settle rule b f ≡ f a
-  stops e = ap (λ (x : Ruling A). settle x b f) e
-
--- two rules found first, and a third after them
-pub two-refuse : {A : Type 0} (r q t : Ruling A) {a : A} → (r orElse (q orElse allowed)) ≡ refused a → (r orElse (q orElse t)) ≡ refused a
-two-refuse allowed allowed t e = cc
-two-refuse allowed (refused b) t e = e
-two-refuse (refused b) q t e = e
-
-pub two-allow : {A : Type 0} (r q t : Ruling A) → (r orElse (q orElse allowed)) ≡ allowed → (r orElse (q orElse t)) ≡ t
-two-allow allowed allowed t e = refl
-two-allow allowed (refused b) t e = cc
-two-allow (refused b) q t e = cc

@@ -2,10 +2,8 @@ pub mod Judgements
 pub mod Places
 pub mod Requests
 pub mod Lists
-pub mod Picks
-pub mod Reports
-pub mod Candidates
 pub mod Ways
 pub mod Soundness
 pub mod Changes
 pub mod Staying
+pub mod Outcomes

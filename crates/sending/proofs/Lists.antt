@@ -1,8 +1,8 @@
 -- The cases of calls 9, 12 and 13, one law each.
 -- Assumes nothing.
-use Prim.Native.Nat.{ℕ, _+_, _^_, _≤_, _<_}
-use mathlib.Core.Path.{_≡_, refl, sym, ap, ap₂, _∙_, subst}
-use mathlib.Core.Bool.{Bool, true, false, not, _&&_}
+use Prim.Native.Nat.{ℕ, _<_}
+use mathlib.Core.Path.{_≡_, sym, ap, ap₂, _∙_, subst}
+use mathlib.Core.Bool.{true, false, not, _&&_}
 use mathlib.Core.List.{List}
 use borrow.Author.Tests.{leb-false, not-false}
 use native.Mathlib.Omega.{arith}
@@ -27,9 +27,10 @@ use Rattle.engine.specs.declared.state.Record.{Record}
 use Rattle.engine.proofs.Rooms.{event-roomy}
 use Rattle.sending.specs.Cancelling.{cancelOutcome, cancelRule, cancelledState}
 use Rattle.sending.specs.Events.{meaning, readEventRule, acknowledgeOutcome, acknowledgeEventRule, releasedEvents, EventHeld}
-use Rattle.sending.specs.Judging.{fitThen, pendingRuling, heldRuling}
+use Rattle.choosing.specs.Judging.{fitThen}
+use Rattle.sending.specs.Judging.{pendingRuling, heldRuling}
 use Rattle.sending.specs.declared.events.EventAnswer
-use Rattle.sending.proofs.Judgements.{allowed-sound, rest-allowed, all-three, all-two}
+use Rattle.choosing.proofs.Judgements.{allowed-sound, rest-allowed, all-three, all-two}
 
 -- ---- call 9
 

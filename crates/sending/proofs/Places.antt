@@ -16,10 +16,10 @@ use Rattle.words.proofs.Lowest.{least-none, least-is, least-absent}
 use Rattle.ring.specs.Rings.{Fit, putPlace}
 use Rattle.ring.specs.declared.Ring.{Ring}
 use Rattle.engine.specs.Areas.{dedicated, shared, isQueue}
-use Rattle.engine.specs.Fitness.{sharedRingSize, Sound}
+use Rattle.engine.specs.Fitness.{Sound}
 use Rattle.engine.specs.declared.state.State.{State}
 use Rattle.engine.proofs.Cases.{fifo-ring}
-use Rattle.sending.specs.Buffers.{queuePlace, freePlace, QueueFits}
+use Rattle.choosing.specs.Buffers.{queuePlace, freePlace, QueueFits}
 
 -- whether a bit above the first d is clear
 abbrev clearFrom : ℕ → ℕ → ℕ → Bool

@@ -1,15 +1,13 @@
 -- The cases of calls 7 and 8, one law each.
 -- Assumes nothing.
-use Prim.Native.Nat.{ℕ, _+_, _-_, _^_, _≤_, _<_}
-use mathlib.Core.Path.{_≡_, refl, sym, ap, ap₂, _∙_, subst}
+use Prim.Native.Nat.{ℕ, _+_, _-_, _≤_, _<_}
+use mathlib.Core.Path.{_≡_, sym, ap, ap₂, _∙_, subst}
 use mathlib.Core.Bool.{Bool, true, false}
 use mathlib.Core.List.{List, [], _∷_}
 use borrow.Author.Tests.{le-leb, lt-leb, leb-false}
 use native.Mathlib.Omega.{arith}
 use lib.Dec.{leb}
 use lib.ListN.{length}
-use mir.Val.{Fits}
-use mir.Syntax.{w32}
 use Rattle.words.specs.Bits.{isSet}
 use Rattle.words.specs.Rules.{Ruling, refuseIf, first, settle}
 use Rattle.words.specs.Runs.{splice}
@@ -21,7 +19,7 @@ use Rattle.frame.specs.declared.Frame.{Frame}
 use Rattle.element.specs.Elements.{txElement}
 use Rattle.element.proofs.Fitness.{frame-fits}
 use Rattle.engine.specs.Answers.{ruled}
-use Rattle.engine.specs.Areas.{dedicated, shared, txCount, isQueue, txArea, dataWords, placeIn, HasPlace}
+use Rattle.engine.specs.Areas.{dedicated, shared, isQueue, txArea, dataWords, placeIn, HasPlace}
 use Rattle.engine.specs.Fitness.{unfit, Sound}
 use Rattle.engine.specs.declared.areas.Area.{Area}
 use Rattle.engine.specs.declared.refusals.Judged
@@ -32,12 +30,13 @@ use Rattle.engine.specs.declared.state.State.{State}
 use Rattle.engine.specs.declared.state.Record.{Record}
 use Rattle.engine.proofs.Cases.{shared-most}
 use Rattle.engine.proofs.Rooms.{tx-roomy}
-use Rattle.sending.specs.Buffers.{requested, freePlace, sharedAfter}
-use Rattle.sending.specs.Judging.{fitThen, freeRuling, formRuling}
+use Rattle.choosing.specs.Buffers.{requested, freePlace, sharedAfter}
+use Rattle.choosing.specs.Judging.{fitThen}
+use Rattle.sending.specs.Judging.{freeRuling, formRuling}
 use Rattle.sending.specs.Requesting.{requestOutcome, requestIn, notRequested, requestFree, dedicatedRule, sharedRule, Requestable, Writable}
 use Rattle.sending.specs.declared.requesting.Requested.the-variants.{Buffer, Refused}
 use Rattle.sending.specs.declared.requesting.AfterRequest.{AfterRequest}
-use Rattle.sending.proofs.Judgements.{allowed-sound, rest-allowed, all-three, one-rule, stops, two-refuse, two-allow}
+use Rattle.choosing.proofs.Judgements.{allowed-sound, rest-allowed, all-three, one-rule, stops, two-refuse, two-allow}
 
 -- ---- in a buffer
 

@@ -1,41 +1,38 @@
 -- A sound state stays sound: what each call does to the Tx buffers' bits and rings.
 -- Assumes nothing.
-use Prim.Native.Nat.{ℕ, _+_, _-_, _^_, _≤_, _<_}
+use Prim.Native.Nat.{ℕ, _+_, _^_, _≤_, _<_}
 use mathlib.Core.Path.{_≡_, refl, sym, ap, ap₂, _∙_, subst}
 use mathlib.Core.Bool.{Bool, true, false, not, _&&_, _||_, or-true, or-false, and-true, and-false}
-use mathlib.Core.List.{List}
-use borrow.Author.Tests.{ltb-true, ltb-false, eqb-true, eqb-false, eq-eqb, ne-eqb, leb-true, leb-false, not-true}
+use borrow.Author.Tests.{ltb-true, eqb-true, eqb-false, eq-eqb, ne-eqb, leb-true, leb-false, not-true}
 use native.Mathlib.Nat.{lt-of-le-of-lt}
 use native.Mathlib.Omega.{arith}
 use lib.Dec.{ltb, eqb, leb}
-use Rattle.words.specs.Bits.{bit, isSet, withBit, withoutBit}
+use Rattle.words.specs.Bits.{isSet, withBit, withoutBit}
 use Rattle.words.specs.Choice.{pick}
-use Rattle.words.specs.Fields.{inField, RestZero}
+use Rattle.words.specs.Fields.{inField}
 use Rattle.words.proofs.Bits.{set-same, set-other, set-lt, cleared-same, cleared-other, cleared-le}
 use Rattle.words.proofs.Choices.{pick-first, pick-second, and-both}
-use Rattle.ring.specs.Rings.{Fit, putPlace, pushed, held, releasedThrough, released}
+use Rattle.ring.specs.Rings.{Fit, putPlace, pushed, held, released}
 use Rattle.ring.specs.declared.Ring.{Ring}
-use Rattle.ring.proofs.Circle.{place-lt}
-use Rattle.ring.proofs.Fitness.{fit-pushed, fit-overwritten, fit-released, fit-released-through}
+use Rattle.ring.proofs.Fitness.{fit-pushed, fit-released}
 use Rattle.ring.proofs.Moves.{held-pushed, held-released-oldest}
 use Rattle.registers.specs.declared.Registers.{Registers}
 use Rattle.engine.specs.Areas.{dedicated, shared, txCount, isQueue, eventSize}
 use Rattle.engine.specs.Fitness.{sharedRingSize, flagFields, Sound, FlagsSound}
 use Rattle.engine.specs.Flags.{raised, raisedIf, filling}
-use Rattle.engine.specs.Keeping.{keepRule, losing, CanKeep}
+use Rattle.engine.specs.Keeping.{keepRule, losing}
 use Rattle.engine.specs.States.{withTx, withEvents}
-use Rattle.engine.specs.declared.keeping.Keeper.{Keeper}
 use Rattle.engine.specs.declared.keeping.Kept.{Kept}
-use Rattle.engine.specs.declared.keeping.Slot.the-variants.{At, Lost}
+use Rattle.engine.specs.declared.keeping.Slot.the-variants.{At}
 use Rattle.engine.specs.declared.state.State.{State}
 use Rattle.engine.specs.declared.state.Record.{Record}
 use Rattle.engine.proofs.Cases.{queue-ring, fifo-ring, shared-most}
-use Rattle.sending.specs.Buffers.{isPending, inSharedFifo, requested, freePlace, sharedAfter}
+use Rattle.choosing.specs.Buffers.{isPending, inSharedFifo, requested, freePlace, sharedAfter}
 use Rattle.sending.specs.Cancelling.{cancelledState}
-use Rattle.sending.specs.Choosing.{isCandidate}
-use Rattle.sending.specs.Promises.{Candidate, dedicatedOne, oldestOne, queueOne}
-use Rattle.sending.specs.Reporting.{sharedSent, sentState, sentStatus, eventKeeper}
-use Rattle.sending.proofs.Candidates.{candidates-are-those}
+use Rattle.choosing.specs.Choosing.{isCandidate}
+use Rattle.choosing.specs.Promises.{Candidate, dedicatedOne, oldestOne, queueOne}
+use Rattle.choosing.specs.Reporting.{sharedSent, sentState, sentStatus, eventKeeper}
+use Rattle.choosing.proofs.Candidates.{candidates-are-those}
 
 -- ---- bits
 
@@ -114,7 +111,7 @@ module _ (s : State) (words : ℕ) (h : Sound s words) where
   no-ring : isQueue (s .regs) ≡ true → (p : ℕ) → p < sharedRingSize (s .regs) → ⊥
   no-ring u p l = omega (arith, queue-ring (s .regs) (isQueue (s .regs)) refl u)
 
-  ring-size : isQueue (s .regs) ≡ false → shared (s .regs) ≡ sharedRingSize (s .regs)
+  pub ring-size : isQueue (s .regs) ≡ false → shared (s .regs) ≡ sharedRingSize (s .regs)
   ring-size u = fifo-ring (s .regs) (isQueue (s .regs)) refl u (shared (s .regs)) refl
 
   -- a request: its bit is set

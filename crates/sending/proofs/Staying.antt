@@ -1,12 +1,14 @@
 -- Fit stays fit, through every call.
 -- Assumes nothing.
-use Prim.Native.Nat.{ℕ, _+_, _<_}
-use mathlib.Core.Path.{_≡_, refl, sym, ap, _∙_, subst}
-use mathlib.Core.Bool.{Bool, true, false}
+use Prim.Native.Nat.{ℕ, _+_}
+use mathlib.Core.Path.{_≡_, sym, ap, _∙_, subst}
+use mathlib.Core.Bool.{Bool, false}
 use mathlib.Core.List.{List}
-use mathlib.Core.Logic.{_⊎_, inl, inr}
+use mathlib.Core.Logic.{inl, inr}
+use native.Mathlib.Omega.{arith}
 use lib.ListN.{length}
 use Rattle.words.specs.Best.{somebody}
+use Rattle.ring.specs.Rings.{held}
 use Rattle.ring.specs.declared.Ring.{Ring}
 use Rattle.ring.proofs.Fitness.{fit-released-through}
 use Rattle.frame.specs.declared.Frame.{Frame}
@@ -17,16 +19,16 @@ use Rattle.engine.specs.declared.areas.Area.{Area}
 use Rattle.engine.specs.declared.state.State.{State}
 use Rattle.engine.specs.declared.state.Record.{Record}
 use Rattle.engine.proofs.Sounds.{sound-of, flags-of, fit-of}
-use Rattle.sending.specs.Buffers.{requested, freePlace, sharedAfter, headerOf}
+use Rattle.choosing.specs.Buffers.{requested, freePlace, sharedAfter}
 use Rattle.sending.specs.Cancelling.{CancelOutcome}
-use Rattle.sending.specs.Choosing.{choice}
+use Rattle.choosing.specs.Choosing.{choice}
 use Rattle.sending.specs.Events.{AcknowledgeOutcome}
-use Rattle.sending.specs.Reporting.{ReportOutcome, sentState, sentStatus, eventKeeper, reported, eventKept}
+use Rattle.choosing.specs.Reporting.{ReportOutcome, sentState, sentStatus, eventKeeper, reported, eventKept}
 use Rattle.sending.specs.Requesting.{RequestOutcome, requestIn, Requestable}
-use Rattle.sending.specs.Promises.{OnlyAt, OneElement, IsFit, FitStaysFit}
-use Rattle.sending.proofs.Candidates.{choice-is-best, candidates-are-those, candidates-wait}
+use Rattle.sending.specs.Promises.{OneElement, IsFit, PendingAreHeld, FitStaysFit}
+use Rattle.choosing.proofs.Candidates.{choice-is-best, candidates-are-those, candidates-wait}
 use Rattle.sending.proofs.Changes.{request-only, report-only}
-use Rattle.sending.proofs.Soundness.{events-sound, dedicated-sound, shared-sound, cancel-sound, sent-sound, cancel-flags, sent-flags, event-sound}
+use Rattle.sending.proofs.Soundness.{ring-size, events-sound, dedicated-sound, shared-sound, cancel-sound, sent-sound, cancel-flags, sent-flags, event-sound}
 use Rattle.sending.proofs.Ways.{dedicated-ways, shared-ways, cancel-ways, report-ways, sent-ways, acknowledge-ways}
 
 same-size : (mem last : List ℕ) (a : Area) → OneElement mem last a → length last ≡ length mem
@@ -81,3 +83,8 @@ fit-stays-fit s r mem fit = record {
       acknowledge-ways s r (length mem) place (λ (o : AcknowledgeOutcome). IsFit (o .state) r mem) (λ n. fit)
       (λ u h. fit-of _ r (length mem) (events-sound s (length mem) (sound s r mem fit) _ (fit-released-through (s .events) (eventSize (s .regs)) (sound s r mem fit .events) place (h .holds))) (flags s r mem fit));
 }
+
+pub pending-are-held : PendingAreHeld
+pending-are-held s r mem p fit u l =
+    let e = ring-size s (length mem) (sound s r mem fit) u in
+    sound s r mem fit .heldBits p (omega (arith, e)) ∙ ap (λ (k : ℕ). held (s .shared) k p) (sym e)

@@ -1,8 +1,8 @@
 -- A call is refused, or goes through: what is shown of both ways is shown of its rule.
 -- Assumes nothing.
-use Prim.Native.Nat.{ℕ, _+_, _≤_, _<_}
-use mathlib.Core.Path.{_≡_, refl, sym, ap, _∙_, subst}
-use mathlib.Core.Bool.{Bool, true, false, not, _&&_}
+use Prim.Native.Nat.{ℕ, _+_, _<_}
+use mathlib.Core.Path.{_≡_, refl, ap}
+use mathlib.Core.Bool.{Bool, true, false, not}
 use mathlib.Core.List.{List, [], _∷_}
 use borrow.Author.Tests.{leb-false, not-false, eqb-true}
 use native.Mathlib.Omega.{arith}
@@ -15,21 +15,21 @@ use Rattle.words.proofs.Rulings.{both-allowed, held-off}
 use Rattle.frame.specs.Malformed.{malformed}
 use Rattle.frame.specs.declared.Frame.{Frame}
 use Rattle.element.proofs.Fitness.{frame-fits}
-use Rattle.engine.specs.Answers.{Says, refuses, answers, done, wrongOutput}
-use Rattle.engine.specs.Areas.{dedicated, shared, txCount, isQueue, eventSize}
-use Rattle.engine.specs.Fitness.{unfit, Sound}
+use Rattle.engine.specs.Answers.{refuses, done, wrongOutput}
+use Rattle.engine.specs.Areas.{dedicated, shared, txCount, eventSize}
+use Rattle.engine.specs.Fitness.{unfit}
 use Rattle.engine.specs.Flags.{raised}
 use Rattle.engine.specs.declared.state.State.{State}
 use Rattle.engine.specs.declared.state.Record.{Record}
 use Rattle.engine.proofs.Sounds.{sound-of}
 use Rattle.ring.specs.Rings.{held}
-use Rattle.sending.specs.Buffers.{isPending, noBuffer, inSharedFifo, freePlace, sharedAfter, headerOf}
+use Rattle.choosing.specs.Buffers.{isPending, noBuffer, inSharedFifo, freePlace, sharedAfter, headerOf}
 use Rattle.sending.specs.Cancelling.{CancelOutcome, cancelRule, cancelledState}
-use Rattle.sending.specs.Choosing.{ChoiceOutcome, choice, sentFrame, chosen, choiceRule}
+use Rattle.choosing.specs.Choosing.{ChoiceOutcome, choice, sentFrame, chosen, choiceRule}
 use Rattle.sending.specs.Events.{AcknowledgeOutcome, noEvent, eventFree, acknowledgeEventRule, releasedEvents, EventHeld}
-use Rattle.sending.specs.Reporting.{ReportOutcome, isChosen, sentState, sentStatus, reported, reportRule, eventKept}
+use Rattle.choosing.specs.Reporting.{ReportOutcome, isChosen, sentState, sentStatus, reported, reportRule, eventKept}
 use Rattle.sending.specs.Requesting.{RequestOutcome, requestIn, notRequested, dedicatedRule, sharedRule, Requestable}
-use Rattle.sending.proofs.Judgements.{all-two, all-three, one-rule}
+use Rattle.choosing.proofs.Judgements.{all-two, all-three}
 
 -- two ways of a ruling
 ways : {B : Type 0} (rule : Ruling ℕ) (b : B) (f : ℕ → B) (P : B → Type 0) → ((n : ℕ) → P (f n)) → (rule ≡ allowed → P b) → P (settle rule b f)

@@ -1,7 +1,7 @@
 -- Call 9, cancel: the whole outcome.
 use Prim.Native.Nat.{ℕ}
-use mathlib.Core.Bool.{Bool, not}
-use mathlib.Core.List.{List, [], _∷_}
+use mathlib.Core.Bool.{not}
+use mathlib.Core.List.{[], _∷_}
 use Rattle.words.specs.Bits.{withBit, withoutBit}
 use Rattle.words.specs.Rules.{refuseIf, first, settle}
 use Rattle.engine.specs.Answers.{Says, refuses, done, replied}
@@ -10,7 +10,7 @@ use Rattle.engine.specs.Flags.{raised}
 use Rattle.engine.specs.States.{withTx}
 use Rattle.engine.specs.declared.state.State.{State}
 use Rattle.engine.specs.declared.state.Record.{Record}
-use Rattle.sending.specs.Buffers.{noBuffer, isPending, inSharedFifo}
+use Rattle.choosing.specs.Buffers.{noBuffer, isPending, inSharedFifo}
 use Rattle.sending.specs.declared.cancelling.AfterCancel.{AfterCancel}
 
 pub record CancelOutcome : Type 0 where

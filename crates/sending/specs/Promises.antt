@@ -1,55 +1,30 @@
 -- What is promised of calls 7 to 13, over their rules: statements only.
 use Prim.Native.Nat.{ℕ, _+_, _≤_, _<_}
 use mathlib.Core.Path.{_≡_}
-use mathlib.Core.Bool.{Bool, true, false}
+use mathlib.Core.Bool.{Bool, false}
 use mathlib.Core.List.{List}
-use mathlib.Core.Logic.{_↔_, _⊎_}
+use mathlib.Core.Logic.{_⊎_}
 use lib.ListN.{length, getD}
-use Rattle.words.specs.Best.{nobody, somebody, AsGood}
 use Rattle.engine.specs.Answers.{refuses, answers}
-use Rattle.engine.specs.Areas.{dedicated, txCount, isQueue, txArea, eventArea, placeIn}
+use Rattle.engine.specs.Areas.{dedicated, shared as sharedCount, isQueue, txArea, eventArea, placeIn}
+use Rattle.ring.specs.Rings.{held}
 use Rattle.frame.specs.declared.Frame.{Frame}
-use Rattle.engine.specs.Fitness.{unfit, Sound}
+use Rattle.engine.specs.Fitness.{unfit}
 use Rattle.engine.specs.declared.areas.Area.{Area}
 use Rattle.engine.specs.declared.state.State.{State}
 use Rattle.engine.specs.declared.state.Record.{Record}
-use Rattle.sending.specs.Buffers.{isPending}
-use Rattle.sending.specs.Cancelling.{cancelRule}
-use Rattle.sending.specs.Choosing.{isCandidate, rankAt, choice, choiceRule}
-use Rattle.sending.specs.Events.{acknowledgeEventRule}
-use Rattle.sending.specs.Reporting.{reportRule}
-use Rattle.sending.specs.Requesting.{dedicatedRule, sharedRule}
-
--- ---- the choice (demand 2)
-
--- the paper's candidates: every pending dedicated buffer, with the shared FIFO's oldest or every pending queue buffer
-pub data Candidate (s : State) (buffer : ℕ) : Type 0 where
-  dedicatedOne : buffer < dedicated (s .regs) → isPending s buffer ≡ true → Candidate s buffer
-  oldestOne : isQueue (s .regs) ≡ false → 0 < s .shared .fill → buffer ≡ dedicated (s .regs) + s .shared .oldest → Candidate s buffer
-  queueOne : isQueue (s .regs) ≡ true → dedicated (s .regs) ≤ buffer → isPending s buffer ≡ true → Candidate s buffer
-
-abbrev pub CandidatesAreThose : Type 0
-CandidatesAreThose = (s : State) (buffer : ℕ) → (isCandidate s buffer ≡ true) ↔ Candidate s buffer
-
--- each of them exists, and is pending
-pub record Waits (s : State) (buffer : ℕ) : Type 0 where
-  pub exists : buffer < txCount (s .regs)
-  pub pending : isPending s buffer ≡ true
-
-abbrev pub CandidatesWait : Type 0
-CandidatesWait = (s : State) (words buffer : ℕ) → Sound s words → Candidate s buffer → Waits s buffer
-
--- a candidate, and none is better: none has a smaller rank, or the same and a lower number
-pub record BestOf (s : State) (mem : List ℕ) (buffer : ℕ) : Type 0 where
-  pub one : Candidate s buffer
-  pub best : (k : ℕ) → Candidate s k → AsGood (rankAt s mem) buffer k
-
-abbrev pub ChoiceIsBest : Type 0
-ChoiceIsBest = (s : State) (words : ℕ) (mem : List ℕ) (buffer : ℕ) → Sound s words → (choice s mem ≡ somebody buffer) ↔ BestOf s mem buffer
-
--- none is chosen exactly where there is no candidate
-abbrev pub NoneChosen : Type 0
-NoneChosen = (s : State) (words : ℕ) (mem : List ℕ) → Sound s words → (choice s mem ≡ nobody) ↔ ((k : ℕ) → Candidate s k → ⊥)
+use Rattle.choosing.specs.Buffers.{isPending}
+use Rattle.sending.specs.Cancelling.{cancelOutcome, cancelRule}
+use Rattle.choosing.specs.Choosing.{choice, choiceOutcome, choiceRule}
+use Rattle.sending.specs.Events.{meaning as eventMeaning, acknowledgeOutcome, acknowledgeEventRule}
+use Rattle.choosing.specs.Reporting.{reportOutcome, reportRule}
+use Rattle.sending.specs.Requesting.{requestOutcome, dedicatedRule, sharedRule}
+use Rattle.sending.specs.declared.cancelling.AfterCancel.{AfterCancel}
+use Rattle.choosing.specs.declared.asking.ChoiceAnswer.{ChoiceAnswer}
+use Rattle.sending.specs.declared.events.EventAnswer.{EventAnswer}
+use Rattle.sending.specs.declared.events.AfterAcknowledge.{AfterAcknowledge}
+use Rattle.choosing.specs.declared.reporting.AfterReport.{AfterReport}
+use Rattle.sending.specs.declared.requesting.AfterRequest.{AfterRequest}
 
 -- ---- fit stays fit
 
@@ -63,6 +38,12 @@ pub record StaysFit (s : State) (r : Record) (mem : List ℕ) : Type 0 where
   pub cancel : (buffer : ℕ) → let o = cancelRule s r (length mem) buffer in IsFit (o .state) (o .status) mem
   pub report : (buffer : ℕ) (passive : Bool) (time : ℕ) → let o = reportRule s r mem buffer passive time in IsFit (o .state) (o .status) (o .memory)
   pub acknowledge : (place : ℕ) → IsFit (acknowledgeEventRule s r (length mem) place .state) r mem
+
+-- in FIFO mode the shared pending bits are exactly those of the held places
+abbrev pub PendingAreHeld : Type 0
+PendingAreHeld =
+    (s : State) (r : Record) (mem : List ℕ) (p : ℕ) → IsFit s r mem → isQueue (s .regs) ≡ false → p < sharedCount (s .regs)
+    → isPending s (dedicated (s .regs) + p) ≡ held (s .shared) (sharedCount (s .regs)) p
 
 abbrev pub FitStaysFit : Type 0
 FitStaysFit = (s : State) (r : Record) (mem : List ℕ) → IsFit s r mem → StaysFit s r mem
@@ -104,3 +85,14 @@ pub record LeavesAll (s : State) (r : Record) (mem : List ℕ) : Type 0 where
 
 abbrev pub RefusedLeavesAll : Type 0
 RefusedLeavesAll = (s : State) (r : Record) (mem : List ℕ) → LeavesAll s r mem
+
+-- ---- one outcome
+
+-- two results of the code with the same outcome are the same, so no second one meets a call's claim
+pub record OneOutcome : Type 0 where
+  pub request : (a b : AfterRequest) (m n : List ℕ) → requestOutcome a m ≡ requestOutcome b n → (a ≡ b) × (m ≡ n)
+  pub cancel : (a b : AfterCancel) → cancelOutcome a ≡ cancelOutcome b → a ≡ b
+  pub choice : (a b : ChoiceAnswer) (m n : List ℕ) → choiceOutcome a m ≡ choiceOutcome b n → (a ≡ b) × (m ≡ n)
+  pub report : (a b : AfterReport) (m n : List ℕ) → reportOutcome a m ≡ reportOutcome b n → (a ≡ b) × (m ≡ n)
+  pub event : (a b : EventAnswer) → eventMeaning a ≡ eventMeaning b → a ≡ b
+  pub acknowledge : (a b : AfterAcknowledge) → acknowledgeOutcome a ≡ acknowledgeOutcome b → a ≡ b

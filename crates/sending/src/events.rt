@@ -1,5 +1,6 @@
 // Calls 12 and 13, read and acknowledge an event.
 use crate::judging::judge_event;
+use choosing::reporting::with_events;
 use element::EventHeader;
 use engine::areas::Area;
 use engine::areas::event_area;
@@ -9,12 +10,10 @@ use engine::refusals::Refusal;
 use engine::refusals::Reply;
 use engine::state::Record;
 use engine::state::State;
-use ring::Ring;
 ghost use mathlib.Core.Path.{_≡_};
 ghost use lib.ListN.{length};
 ghost use Rattle.element.specs.Headers.{eventHeaderIn, headed};
 ghost use Rattle.engine.specs.Areas.{placeIn, HasPlace};
-ghost use Rattle.engine.specs.States.{withEvents};
 ghost use Rattle.sending.specs.Events.{meaning, readEventRule, acknowledgeOutcome, acknowledgeEventRule, releasedEvents, EventHeld};
 
 pub enum EventAnswer {
@@ -42,15 +41,6 @@ pub fn read_event(s: State, status: Record, mem: &[u32], place: u32) -> EventAns
         Judged::Refused(n) => EventAnswer::Refused(n),
         Judged::Allowed => EventAnswer::Read(event_at(mem, event_area(s.regs), place)),
     }
-}
-
-// The event list's ring is another.
-pub fn with_events(s: State, next: Ring) -> State
-    ensures { λ n. ⌜ n ≡ withEvents s next ⌝ }
-{
-    let mut n = s;
-    n.events = next;
-    n
 }
 
 // All held events up to and including a place are released.

@@ -14,7 +14,8 @@ ghost use Prim.Native.Nat.{_≤_};
 ghost use Rattle.ring.specs.Rings.{Fit};
 ghost use Rattle.engine.specs.Answers.{ruled};
 ghost use Rattle.engine.specs.Areas.{dedicated, txCount, isQueue, eventSize};
-ghost use Rattle.sending.specs.Judging.{fitThen, freeRuling, formRuling, pendingRuling, outputRuling, heldRuling};
+ghost use Rattle.choosing.specs.Judging.{fitThen};
+ghost use Rattle.sending.specs.Judging.{freeRuling, formRuling, pendingRuling, heldRuling};
 
 // 21, and 23 and 24 of a buffer among so many dedicated ones.
 fn judge_free(f: Frame, len: usize, dedicated: u32, pending: u32, buffer: u32) -> Judged
@@ -90,19 +91,6 @@ pub fn judge_cancel(s: State, status: Record, words: usize, buffer: u32) -> Judg
     let dedicated = s.regs.txbc.dedicated();
     let count = dedicated + s.regs.txbc.shared();
     judge_pending(count, dedicated, is_queue(s.regs), s.pending, buffer)
-}
-
-// Call 10.
-pub fn judge_output(s: State, status: Record, words: usize, len: usize) -> Judged
-    ensures { λ j. ⌜ ruled j ≡ fitThen s status words (outputRuling len) ⌝ }
-{
-    if is_unfit(s, status, words) {
-        return Judged::Refused(Refusal::Unfit);
-    }
-    if len != 64 {
-        return Judged::Refused(Refusal::WrongOutput);
-    }
-    Judged::Allowed
 }
 
 // 23 and 29 of a place in a ring.

@@ -1,7 +1,5 @@
-// Calls 7 to 13: request a buffer, cancel, ask the choice, report sent, read and acknowledge an event.
+// Calls 7, 8, 9, 12 and 13: request a buffer, cancel, read and acknowledge an event.
 pub mod cancelling;
-pub mod choosing;
 pub mod events;
 pub mod judging;
-pub mod reporting;
 pub mod requesting;

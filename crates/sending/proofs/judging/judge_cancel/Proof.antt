@@ -1,4 +1,5 @@
-use Rattle.sending.proofs.Judgements.{unfit-first, cancel-rest, few-buffers}
+use Rattle.choosing.proofs.Judgements.{unfit-first}
+use Rattle.sending.proofs.Judgements.{cancel-rest, few-buffers}
 use borrow.Author.Needs.{needs}
 use Rattle.sending.proofs.judging.judge_cancel.Statement.{statement}
 use Rattle.sending.proofs.judging.judge_cancel.Tie as tie

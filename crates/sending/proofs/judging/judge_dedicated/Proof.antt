@@ -1,4 +1,5 @@
-use Rattle.sending.proofs.Judgements.{unfit-first, dedicated-rest, few-dedicated}
+use Rattle.choosing.proofs.Judgements.{unfit-first}
+use Rattle.sending.proofs.Judgements.{dedicated-rest, few-dedicated}
 use borrow.Author.Needs.{needs}
 use Rattle.sending.proofs.judging.judge_dedicated.Statement.{statement}
 use Rattle.sending.proofs.judging.judge_dedicated.Tie as tie

@@ -1,4 +1,5 @@
-use Rattle.sending.proofs.Judgements.{unfit-first, event-rest, events-fit}
+use Rattle.choosing.proofs.Judgements.{unfit-first}
+use Rattle.sending.proofs.Judgements.{event-rest, events-fit}
 use borrow.Author.Needs.{needs}
 use Rattle.sending.proofs.judging.judge_event.Statement.{statement}
 use Rattle.sending.proofs.judging.judge_event.Tie as tie

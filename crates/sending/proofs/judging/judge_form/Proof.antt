@@ -1,4 +1,5 @@
-use Rattle.sending.proofs.Judgements.{unfit-first, form-malformed, form-right}
+use Rattle.choosing.proofs.Judgements.{unfit-first}
+use Rattle.sending.proofs.Judgements.{form-malformed, form-right}
 use borrow.Author.Needs.{needs}
 use Rattle.sending.proofs.judging.judge_form.Statement.{statement}
 use Rattle.sending.proofs.judging.judge_form.Tie as tie

@@ -1,0 +1,4 @@
+pub mod Judgements
+pub mod Picks
+pub mod Reports
+pub mod Candidates

@@ -1,0 +1,5 @@
+pub mod Buffers
+pub mod Judging
+pub mod Choosing
+pub mod Reporting
+pub mod Promises
