@@ -66,12 +66,8 @@ one-rule x a e = held-off x a (both-allowed (refuseIf x a) (first []) e .0)
 
 -- ---- what is made of it
 
-module _ {A B : Type 0} {rule : Ruling A} (b : B) (f : A → B) where
-  pub goes-on : rule ≡ allowed → settle rule b f ≡ b
-  goes-on e = ap (λ (x : Ruling A). settle x b f) e
-
-  pub stops : {a : A} → rule ≡ refused a → settle rule b f ≡ f a
-  stops e = ap (λ (x : Ruling A). settle x b f) e
+pub stops : {A B : Type 0} {rule : Ruling A} (b : B) (f : A → B) {a : A} → rule ≡ refused a → settle rule b f ≡ f a
+stops {A} {B} {rule} b f e = ap (λ (x : Ruling A). settle x b f) e
 
 -- two rules found first, and a third after them
 pub two-refuse : {A : Type 0} (r q t : Ruling A) {a : A} → (r orElse (q orElse allowed)) ≡ refused a → (r orElse (q orElse t)) ≡ refused a

@@ -23,7 +23,6 @@ use Rattle.engine.specs.declared.keeping.Slot.the-variants.{At, Lost}
 use Rattle.engine.specs.declared.state.State.{State}
 use Rattle.engine.specs.declared.state.Record.{Record}
 use Rattle.engine.proofs.Rooms.{place-room, tx-roomy, event-roomy}
-use Rattle.engine.proofs.Sounds.{sound-of}
 use Rattle.choosing.specs.Buffers.{freePlace, sharedAfter, headerOf}
 use Rattle.sending.specs.Cancelling.{CancelOutcome}
 use Rattle.choosing.specs.Choosing.{ChoiceOutcome, chosen, choice, sentFrame}
@@ -50,13 +49,13 @@ chosen-says s mem passive out (somebody b) n e = not-refused e
 
 pub refused-leaves-all : RefusedLeavesAll
 refused-leaves-all s r mem = record {
-  dedicated = λ buffer f d marker wish n. dedicated-ways s r mem buffer f d marker wish (λ (o : RequestOutcome). o .says ≡ refuses n → (o .state ≡ s) × (o .memory ≡ mem)) (λ k e. (refl, refl)) (λ a b c e. not-refused e);
+  dedicated = λ buffer f d marker wish n. dedicated-ways s r mem buffer f d marker wish (λ (o : RequestOutcome). o .says ≡ refuses n → (o .state ≡ s) × (o .memory ≡ mem)) (λ k e. (refl, refl)) (λ a b e. not-refused e);
   shared = λ f d marker wish n. shared-ways s r mem f d marker wish (λ (o : RequestOutcome). o .says ≡ refuses n → (o .state ≡ s) × (o .memory ≡ mem)) (λ k e. (refl, refl)) (λ a b e. not-refused e);
-  cancel = λ words buffer n. cancel-ways s r words buffer (λ (o : CancelOutcome). o .says ≡ refuses n → (o .state ≡ s) × (o .status ≡ r)) (λ k e. (refl, refl)) (λ a b c d e. not-refused e);
-  choice = λ passive out n. choice-ways s r mem passive out (λ (o : ChoiceOutcome). o .says ≡ refuses n → o .output ≡ out) (λ k e. refl) (λ a b e. chosen-says s mem passive out (choice s mem) n e);
+  cancel = λ words buffer n. cancel-ways s r words buffer (λ (o : CancelOutcome). o .says ≡ refuses n → (o .state ≡ s) × (o .status ≡ r)) (λ k e. (refl, refl)) (λ a b c e. not-refused e);
+  choice = λ passive out n. choice-ways s r mem passive out (λ (o : ChoiceOutcome). o .says ≡ refuses n → o .output ≡ out) (λ k e. refl) (λ e. chosen-says s mem passive out (choice s mem) n e);
   report = λ buffer passive time n.
       report-ways s r mem buffer passive time (λ (o : ReportOutcome). o .says ≡ refuses n → (o .state ≡ s) × (o .status ≡ r) × (o .memory ≡ mem)) (λ k e. (refl, refl, refl))
-      (λ a b e. not-refused (sym (reported-says s r mem buffer passive time) ∙ e));
+      (λ a b c e. not-refused (sym (reported-says s r mem buffer passive time) ∙ e));
   acknowledge = λ words place n. acknowledge-ways s r words place (λ (o : AcknowledgeOutcome). o .says ≡ refuses n → o .state ≡ s) (λ k e. refl) (λ a b e. not-refused e);
 }
 
@@ -96,13 +95,13 @@ pub calls-change-own : CallsChangeOwn
 calls-change-own s r mem = record {
   dedicated = λ buffer f d marker wish b.
       dedicated-ways s r mem buffer f d marker wish (λ (o : RequestOutcome). o .says ≡ answers b → OnlyAt mem (o .memory) (placeIn (txArea (s .regs)) b) (txArea (s .regs) .each)) (λ k e. not-refused (sym e))
-      (λ h c t e. accepted buffer f d marker wish (s .shared) b h e);
+      (λ h c e. accepted buffer f d marker wish (s .shared) b h e);
   shared = λ f d marker wish b.
       shared-ways s r mem f d marker wish (λ (o : RequestOutcome). o .says ≡ answers b → OnlyAt mem (o .memory) (placeIn (txArea (s .regs)) b) (txArea (s .regs) .each)) (λ k e. not-refused (sym e))
       (λ h c e. accepted (dedicated (s .regs) + freePlace s) f d marker wish (sharedAfter s) b h e);
   report = λ buffer passive time.
       report-ways s r mem buffer passive time (λ (o : ReportOutcome). OneElement mem (o .memory) (eventArea (s .regs))) (λ n. inl refl)
-      (λ u c. report-only s r mem buffer passive time (sound-of s r (length mem) u));
+      (λ h l c. report-only s r mem buffer passive time h);
 }
   where
     accepted : (buffer : ℕ) (f : Frame) (d : List ℕ) (marker : ℕ) (wish : Bool) (next : Ring) (b : ℕ) → Requestable s (length mem) buffer f → answers buffer ≡ answers b

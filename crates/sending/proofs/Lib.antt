@@ -7,3 +7,4 @@ pub mod Soundness
 pub mod Changes
 pub mod Staying
 pub mod Outcomes
+pub mod OwnSections

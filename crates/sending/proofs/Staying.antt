@@ -66,16 +66,16 @@ pub fit-stays-fit : FitStaysFit
 fit-stays-fit s r mem fit = record {
   dedicated = λ buffer f d marker wish.
       dedicated-ways s r mem buffer f d marker wish (λ (o : RequestOutcome). IsFit (o .state) r (o .memory)) (λ n. fit)
-      (λ a l p. request-stays s r mem fit buffer f d marker wish (s .shared) a (dedicated-sound s (length mem) (sound s r mem fit) buffer l));
+      (λ a l. request-stays s r mem fit buffer f d marker wish (s .shared) a (dedicated-sound s (length mem) (sound s r mem fit) buffer l));
   shared = λ f d marker wish.
       shared-ways s r mem f d marker wish (λ (o : RequestOutcome). IsFit (o .state) r (o .memory)) (λ n. fit)
       (λ a l. request-stays s r mem fit (dedicated (s .regs) + freePlace s) f d marker wish (sharedAfter s) a (shared-sound s (length mem) (sound s r mem fit) l));
   cancel = λ buffer.
       cancel-ways s r (length mem) buffer (λ (o : CancelOutcome). IsFit (o .state) (o .status) mem) (λ n. fit)
-      (λ u l e p. fit-of _ _ (length mem) (cancel-sound s (length mem) (sound s r mem fit) buffer l e) (cancel-flags r (flags s r mem fit)));
+      (λ u l e. fit-of _ _ (length mem) (cancel-sound s (length mem) (sound s r mem fit) buffer l e) (cancel-flags r (flags s r mem fit)));
   report = λ buffer passive time.
       report-ways s r mem buffer passive time (λ (o : ReportOutcome). IsFit (o .state) (o .status) (o .memory)) (λ n. fit)
-      (λ u e.
+      (λ u l e.
       let w = report-stays s r mem fit buffer passive time e in
       let o = reported s r mem buffer passive time in
       stays s r mem fit (o .state) (o .status) (o .memory) (same-size mem (o .memory) (eventArea (s .regs)) (report-only s r mem buffer passive time (sound s r mem fit))) (w .0) (w .1));

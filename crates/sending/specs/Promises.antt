@@ -1,5 +1,5 @@
 -- What is promised of calls 7 to 13, over their rules: statements only.
-use Prim.Native.Nat.{ℕ, _+_, _≤_, _<_}
+use Prim.Native.Nat.{ℕ, _+_, _*_, _≤_, _<_}
 use mathlib.Core.Path.{_≡_}
 use mathlib.Core.Bool.{Bool, false}
 use mathlib.Core.List.{List}
@@ -8,6 +8,7 @@ use lib.ListN.{length, getD}
 use Rattle.engine.specs.Answers.{refuses, answers}
 use Rattle.engine.specs.Areas.{dedicated, shared as sharedCount, isQueue, txArea, eventArea, placeIn}
 use Rattle.ring.specs.Rings.{held}
+use Rattle.registers.specs.declared.Registers.{Registers}
 use Rattle.frame.specs.declared.Frame.{Frame}
 use Rattle.engine.specs.Fitness.{unfit}
 use Rattle.engine.specs.declared.areas.Area.{Area}
@@ -16,7 +17,7 @@ use Rattle.engine.specs.declared.state.Record.{Record}
 use Rattle.choosing.specs.Buffers.{isPending}
 use Rattle.sending.specs.Cancelling.{cancelOutcome, cancelRule}
 use Rattle.choosing.specs.Choosing.{choice, choiceOutcome, choiceRule}
-use Rattle.sending.specs.Events.{meaning as eventMeaning, acknowledgeOutcome, acknowledgeEventRule}
+use Rattle.sending.specs.Events.{meaning as eventMeaning, readEventRule, acknowledgeOutcome, acknowledgeEventRule}
 use Rattle.choosing.specs.Reporting.{reportOutcome, reportRule}
 use Rattle.sending.specs.Requesting.{requestOutcome, dedicatedRule, sharedRule}
 use Rattle.sending.specs.declared.cancelling.AfterCancel.{AfterCancel}
@@ -96,3 +97,31 @@ pub record OneOutcome : Type 0 where
   pub report : (a b : AfterReport) (m n : List ℕ) → reportOutcome a m ≡ reportOutcome b n → (a ≡ b) × (m ≡ n)
   pub event : (a b : EventAnswer) → eventMeaning a ≡ eventMeaning b → a ≡ b
   pub acknowledge : (a b : AfterAcknowledge) → acknowledgeOutcome a ≡ acknowledgeOutcome b → a ≡ b
+
+-- ---- a call reads its own sections alone
+
+-- two memories have the same words in an area
+abbrev pub SameIn : Area → List ℕ → List ℕ → Type 0
+SameIn a mem other = (i : ℕ) → a .start ≤ i → i < a .start + a .count * a .each → getD mem i 0 ≡ getD other i 0
+
+-- as long as each other, with the same Tx buffers and the same events
+pub record Alike (g : Registers) (mem other : List ℕ) : Type 0 where
+  pub size : length mem ≡ length other
+  pub tx : SameIn (txArea g) mem other
+  pub events : SameIn (eventArea g) mem other
+
+-- with either of two memories each call says and does the same, and leaves them alike
+pub record ActsAlike (s : State) (r : Record) (mem other : List ℕ) : Type 0 where
+  pub dedicated : (buffer : ℕ) (f : Frame) (d : List ℕ) (marker : ℕ) (wish : Bool) → let o = dedicatedRule s r mem buffer f d marker wish in
+      let p = dedicatedRule s r other buffer f d marker wish in (o .says ≡ p .says) × (o .state ≡ p .state) × Alike (s .regs) (o .memory) (p .memory)
+  pub shared : (f : Frame) (d : List ℕ) (marker : ℕ) (wish : Bool) → let o = sharedRule s r mem f d marker wish in
+      let p = sharedRule s r other f d marker wish in (o .says ≡ p .says) × (o .state ≡ p .state) × Alike (s .regs) (o .memory) (p .memory)
+  pub cancel : (buffer : ℕ) → cancelRule s r (length mem) buffer ≡ cancelRule s r (length other) buffer
+  pub choice : (passive : Bool) (out : List ℕ) → choiceRule s r mem passive out ≡ choiceRule s r other passive out
+  pub report : (buffer : ℕ) (passive : Bool) (time : ℕ) → let o = reportRule s r mem buffer passive time in
+      let p = reportRule s r other buffer passive time in (o .says ≡ p .says) × (o .state ≡ p .state) × (o .status ≡ p .status) × Alike (s .regs) (o .memory) (p .memory)
+  pub event : (place : ℕ) → readEventRule s r mem place ≡ readEventRule s r other place
+  pub acknowledge : (place : ℕ) → acknowledgeEventRule s r (length mem) place ≡ acknowledgeEventRule s r (length other) place
+
+abbrev pub OwnSectionsAlone : Type 0
+OwnSectionsAlone = (s : State) (r : Record) (mem other : List ℕ) → Alike (s .regs) mem other → ActsAlike s r mem other

@@ -1,0 +1,4 @@
+pub mod Settled
+pub mod Exact
+pub mod Unchanged
+pub mod StillFit

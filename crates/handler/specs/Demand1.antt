@@ -1,0 +1,48 @@
+-- Demand 1: refusals by the numbers, each exactly when its row says so, and a refusal changes nothing. Statements only.
+use Prim.Native.Nat.{ℕ, _<_}
+use mathlib.Core.Path.{_≡_}
+use mathlib.Core.Bool.{Bool, true, false}
+use mathlib.Core.List.{List}
+use mathlib.Core.Logic.{_↔_}
+use lib.ListN.{length, getD}
+use Rattle.words.specs.Rules.{allowed, refused}
+use Rattle.engine.specs.Fitness.{unfit}
+use Rattle.handler.specs.Calls.{World, Call, readFifo, readBuffer, askChoice, refusal}
+use Rattle.handler.specs.Steps.{step, after}
+use Rattle.handler.specs.Rows.{Row, row, rows}
+
+-- row k of the table applies, and none before it: the rows stand in the order of their numbers
+pub record FirstRow (rs : List Row) (n : ℕ) : Type 0 where
+  pub place : ℕ
+  pub inside : place < length rs
+  pub number : getD rs place (row 0 false) .number ≡ n
+  pub here : getD rs place (row 0 false) .applies ≡ true
+  pub before : (j : ℕ) → j < place → getD rs j (row 0 false) .applies ≡ false
+
+-- the refusal is n exactly where row n applies and no lower row does; a call is accepted exactly where none applies
+pub record Exactly (w : World) (c : Call) : Type 0 where
+  pub refuses : (n : ℕ) → (refusal c (step w c .0) ≡ refused n) ↔ FirstRow (rows w c) n
+  pub accepts : (refusal c (step w c .0) ≡ allowed) ↔ ((k : ℕ) → k < length (rows w c) → getD (rows w c) k (row 0 false) .applies ≡ false)
+
+abbrev pub RefusalsAreExact : Type 0
+RefusalsAreExact = (w : World) (c : Call) → Exactly w c
+
+-- a refused call leaves the world as it was
+abbrev pub RefusalsChangeNothing : Type 0
+RefusalsChangeNothing = (w : World) (c : Call) (n : ℕ) → refusal c (step w c .0) ≡ refused n → step w c .1 ≡ w
+
+-- and the lent output too
+pub record OutputsStay (w : World) : Type 0 where
+  pub fifo : (fifo place : ℕ) (out : List ℕ) (n : ℕ) → refusal (readFifo fifo place out) (step w (readFifo fifo place out) .0) ≡ refused n → step w (readFifo fifo place out) .0 .output ≡ out
+  pub buffer : (buffer : ℕ) (out : List ℕ) (n : ℕ) → refusal (readBuffer buffer out) (step w (readBuffer buffer out) .0) ≡ refused n → step w (readBuffer buffer out) .0 .output ≡ out
+  pub choice : (passive : Bool) (out : List ℕ) (n : ℕ) → refusal (askChoice passive out) (step w (askChoice passive out) .0) ≡ refused n → step w (askChoice passive out) .0 .output ≡ out
+
+abbrev pub RefusedOutputsStay : Type 0
+RefusedOutputsStay = (w : World) → OutputsStay w
+
+-- a fit world stays fit under any calls, refused ones too
+abbrev pub IsFit : World → Type 0
+IsFit w = unfit (w .state) (w .status) (length (w .memory)) ≡ false
+
+abbrev pub FitAfterAnyCalls : Type 0
+FitAfterAnyCalls = (cs : List Call) (w : World) → IsFit w → IsFit (after w cs)

@@ -1,0 +1,4 @@
+pub mod Calls
+pub mod Steps
+pub mod Rows
+pub mod Demand1
