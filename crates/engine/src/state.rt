@@ -31,6 +31,7 @@ pub struct State {
     pub cancelled: u32,
 }
 
+#[repr(C)]
 pub struct Record {
     pub flags: u32,
     pub priority: u32,

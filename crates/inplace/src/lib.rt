@@ -1,0 +1,41 @@
+// The record of flags and priority, changed in place by the caller's interrupt code: thin functions over the steps by value.
+// They are raw steps: no state is asked for, and nothing is refused.
+use engine::flags;
+use engine::state::Record;
+use words::bits32;
+ghost use mathlib.Core.Path.{_≡_};
+ghost use Rattle.engine.specs.Flags.{cleared, withPriority};
+ghost use Rattle.inplace.specs.Raising.{raisedMask};
+
+// The flags of a mask are set; the priority stays.
+pub fn raise_mask(r: Record, mask: u32) -> Record
+    ensures { λ n. ⌜ n ≡ raisedMask r mask ⌝ }
+{
+    let mut n = r;
+    n.flags = bits32::set_mask(r.flags, mask);
+    n
+}
+
+// The same in place.
+#[no_mangle]
+pub extern "C" fn cuongphemi_flags_raise(status: &mut Record, mask: u32)
+    ensures { λ _. ⌜ now (status .exit) ≡ raisedMask (now (status .entry)) mask ⌝ }
+{
+    *status = raise_mask(*status, mask);
+}
+
+// The flags of a mask are cleared in place; the priority stays.
+#[no_mangle]
+pub extern "C" fn cuongphemi_flags_clear(status: &mut Record, mask: u32)
+    ensures { λ _. ⌜ now (status .exit) ≡ cleared (now (status .entry)) mask ⌝ }
+{
+    *status = flags::clear(*status, mask);
+}
+
+// The priority word is replaced in place; the flags stay.
+#[no_mangle]
+pub extern "C" fn cuongphemi_priority_put(status: &mut Record, word: u32)
+    ensures { λ _. ⌜ now (status .exit) ≡ withPriority (now (status .entry)) word ⌝ }
+{
+    *status = flags::set_priority(*status, word);
+}
