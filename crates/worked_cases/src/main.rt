@@ -1,18 +1,14 @@
 // Runs the cases of standard input through the calls and prints what these answer.
-mod bench;
-mod engine_steps;
-mod lent;
-mod receiving_steps;
-mod script;
-mod sending_steps;
-mod tell;
-
-use crate::bench::Bench;
-use crate::bench::unstarted;
-use crate::script::code_of;
-use crate::script::line_end;
-use crate::script::numbers;
-use crate::script::part;
+use case_engine::engine_steps;
+use case_receiving::receiving_steps;
+use case_sending::sending_steps;
+use case_text::bench::Bench;
+use case_text::bench::unstarted;
+use case_text::script::code_of;
+use case_text::script::line_end;
+use case_text::script::numbers;
+use case_text::script::part;
+use case_text::tell;
 use libc::STDIN_FILENO;
 ghost use Prim.Native.Nat.{_≤_};
 ghost use lib.ListN.{length};

@@ -1,9 +1,9 @@
 // Calls 1, 14 and 15, each with a line for what it answers, and the steps by hand.
-use crate::bench::Bench;
-use crate::bench::registers_of;
-use crate::bench::tell_refusal;
-use crate::bench::tell_reply;
-use crate::tell;
+use case_text::bench::Bench;
+use case_text::bench::registers_of;
+use case_text::bench::tell_refusal;
+use case_text::bench::tell_reply;
+use case_text::tell;
 use engine::overview;
 use engine::overview::Overview;
 use engine::overview::RingStatus;

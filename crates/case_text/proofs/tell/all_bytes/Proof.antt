@@ -1,7 +1,7 @@
 use Prim.Native.Nat.{_-_}
 use borrow.Author.Needs.{needs}
-use Rattle.worked_cases.proofs.tell.all_bytes.Statement.{statement}
-use Rattle.worked_cases.proofs.tell.all_bytes.Tie as tie
+use Rattle.case_text.proofs.tell.all_bytes.Statement.{statement}
+use Rattle.case_text.proofs.tell.all_bytes.Tie as tie
 
 abbrev Inv-loop : tie.InvT-loop
 Inv-loop out count i₀ i = Unit {0}

@@ -1,7 +1,7 @@
 use Prim.Native.Nat.{_-_, _<_}
 use borrow.Author.Needs.{needs}
-use Rattle.worked_cases.proofs.engine_steps.checksum.Statement.{statement}
-use Rattle.worked_cases.proofs.engine_steps.checksum.Tie as tie
+use Rattle.case_engine.proofs.engine_steps.checksum.Statement.{statement}
+use Rattle.case_engine.proofs.engine_steps.checksum.Tie as tie
 
 abbrev Inv-loop : tie.InvT-loop
 Inv-loop mem sum₀ i₀ i-end sum i = sum < 65521

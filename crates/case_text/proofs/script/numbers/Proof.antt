@@ -1,7 +1,7 @@
 use Prim.Native.Nat.{_-_, _<_}
 use borrow.Author.Needs.{needs}
-use Rattle.worked_cases.proofs.script.numbers.Statement.{statement}
-use Rattle.worked_cases.proofs.script.numbers.Tie as tie
+use Rattle.case_text.proofs.script.numbers.Statement.{statement}
+use Rattle.case_text.proofs.script.numbers.Tie as tie
 
 abbrev Inv-loop : tie.InvT-loop
 Inv-loop line found₀ at₀ i₀ i-end found at i = at < 16

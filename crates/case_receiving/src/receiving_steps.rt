@@ -1,15 +1,15 @@
 // Calls 2 to 6, each with a line for what it answers.
-use crate::bench::Bench;
-use crate::bench::after;
-use crate::bench::frame_of;
-use crate::bench::length_of;
-use crate::bench::tell_frame;
-use crate::bench::tell_refusal;
-use crate::bench::tell_reply;
-use crate::lent::DATA;
-use crate::lent::data_from;
-use crate::lent::output;
-use crate::tell;
+use case_text::bench::Bench;
+use case_text::bench::after;
+use case_text::bench::frame_of;
+use case_text::bench::length_of;
+use case_text::bench::tell_frame;
+use case_text::bench::tell_refusal;
+use case_text::bench::tell_reply;
+use case_text::lent::DATA;
+use case_text::lent::data_from;
+use case_text::lent::output;
+use case_text::tell;
 use element::RxRead;
 use filter::Reason;
 use frame::Frame;

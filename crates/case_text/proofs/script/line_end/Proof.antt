@@ -1,8 +1,8 @@
 use Prim.Native.Nat.{_-_, _≤_}
 use lib.ListN.{length}
 use borrow.Author.Needs.{needs}
-use Rattle.worked_cases.proofs.script.line_end.Statement.{statement}
-use Rattle.worked_cases.proofs.script.line_end.Tie as tie
+use Rattle.case_text.proofs.script.line_end.Statement.{statement}
+use Rattle.case_text.proofs.script.line_end.Tie as tie
 
 abbrev Inv-loop : tie.InvT-loop
 Inv-loop text from i₀ i-end i = (from ≤ i) × (from ≤ length text)
