@@ -30,37 +30,40 @@ sent-alike a b n i same = go (ltb i (4 * n)) refl
     go true e = same (ltb-true i (4 * n) e)
     go false e = refl
 
-module _ (mem other : List ℕ) (at n : ℕ) (own : part at (2 + n) mem ≡ part at (2 + n) other) where
-  word-alike : (i k : ℕ) → i < 2 + n → k ≡ at + i → getD mem k 0 ≡ getD other k 0
-  word-alike i k l e =
+module _ (mem other : List ℕ) (at to n : ℕ) (own : part at (2 + n) mem ≡ part to (2 + n) other) where
+  word-alike : (i k m : ℕ) → i < 2 + n → k ≡ at + i → m ≡ to + i → getD mem k 0 ≡ getD other m 0
+  word-alike i k m l e f =
       ap (λ (x : ℕ). getD mem x 0) e
       ∙ sym (getD-part at (2 + n) mem i l)
       ∙ ap (λ (p : List ℕ). getD p i 0) own
-      ∙ getD-part at (2 + n) other i l
-      ∙ ap (λ (x : ℕ). getD other x 0) (sym e)
+      ∙ getD-part to (2 + n) other i l
+      ∙ ap (λ (x : ℕ). getD other x 0) (sym f)
 
-  byte-alike : (i : ℕ) → i < 4 * n → byteIn mem (at + 2) i ≡ byteIn other (at + 2) i
+  byte-alike : (i : ℕ) → i < 4 * n → byteIn mem (at + 2) i ≡ byteIn other (to + 2) i
   unfolding byteIn
-  byte-alike i l = ap (λ (w : ℕ). byteOf w (i % 4)) (word-alike (2 + i / 4) (at + 2 + i / 4) (omega arith) (omega arith))
+  byte-alike i l = ap (λ (w : ℕ). byteOf w (i % 4)) (word-alike (2 + i / 4) (at + 2 + i / 4) (to + 2 + i / 4) (omega arith) (omega arith) (omega arith))
 
-  headed-alike : {A : Type 0} (header : ℕ → ℕ → A) → headed header mem at ≡ headed header other at
-  headed-alike header = ap₂ header (word-alike 0 at (omega arith) (omega arith)) (word-alike 1 (at + 1) (omega arith) (omega arith))
+  first-alike : getD mem at 0 ≡ getD other to 0
+  first-alike = word-alike 0 at to (omega arith) (omega arith) (omega arith)
 
-  read-alike : readBytes mem at n ≡ readBytes other at n
+  second-alike : getD mem (at + 1) 0 ≡ getD other (to + 1) 0
+  second-alike = word-alike 1 (at + 1) (to + 1) (omega arith) (omega arith) (omega arith)
+
+  read-alike : readBytes mem at n ≡ readBytes other to n
   unfolding readBytes readCount
   read-alike =
-      run-same (byteIn mem (at + 2)) (byteIn other (at + 2)) 0 (min (lengthOf (headed frameIn mem at)) (4 * n)) (λ i l. byte-alike i (omega arith))
-      ∙ ap (λ (k : ℕ). run (byteIn other (at + 2)) 0 (min k (4 * n))) (ap lengthOf (headed-alike frameIn))
+      run-same (byteIn mem (at + 2)) (byteIn other (to + 2)) 0 (min (lengthOf (headed frameIn mem at)) (4 * n)) (λ i l. byte-alike i (omega arith))
+      ∙ ap (λ (k : ℕ). run (byteIn other (to + 2)) 0 (min k (4 * n))) (ap lengthOf (ap₂ frameIn first-alike second-alike))
 
-  sent-from-alike : (count : ℕ) → sentFrom mem at n count ≡ sentFrom other at n count
+  sent-from-alike : (count : ℕ) → sentFrom mem at n count ≡ sentFrom other to n count
   unfolding sentFrom sentByte
   sent-from-alike count =
-      run-same (sentByte mem at n) (sentByte other at n) 0 count (λ i l. sent-alike (byteIn mem (at + 2) i) (byteIn other (at + 2) i) n i (byte-alike i))
+      run-same (sentByte mem at n) (sentByte other to n) 0 count (λ i l. sent-alike (byteIn mem (at + 2) i) (byteIn other (to + 2) i) n i (byte-alike i))
 
 pub own-words : OwnWords
-own-words mem other at n own = record {
-  first = word-alike mem other at n own 0 at (omega arith) (omega arith);
-  second = word-alike mem other at n own 1 (at + 1) (omega arith) (omega arith);
-  read = read-alike mem other at n own;
-  sent = sent-from-alike mem other at n own;
+own-words mem other at to n own = record {
+  first = first-alike mem other at to n own;
+  second = second-alike mem other at to n own;
+  read = read-alike mem other at to n own;
+  sent = sent-from-alike mem other at to n own;
 }

@@ -92,12 +92,12 @@ SentAsHeld =
     (mem : List ℕ) (at n count : ℕ)
     → sentFrom mem at n count ≡ sentBytes (4 * n) (run (byteIn mem (at + 2)) 0 (4 * n)) count
 
--- a read looks at the element's own words alone
-pub record ReadsAlike (mem other : List ℕ) (at n : ℕ) : Type 0 where
-  pub first : getD mem at 0 ≡ getD other at 0
-  pub second : getD mem (at + 1) 0 ≡ getD other (at + 1) 0
-  pub read : readBytes mem at n ≡ readBytes other at n
-  pub sent : (count : ℕ) → sentFrom mem at n count ≡ sentFrom other at n count
+-- a read looks at the element's own words alone, wherever they stand
+pub record ReadsAlike (mem other : List ℕ) (at to n : ℕ) : Type 0 where
+  pub first : getD mem at 0 ≡ getD other to 0
+  pub second : getD mem (at + 1) 0 ≡ getD other (to + 1) 0
+  pub read : readBytes mem at n ≡ readBytes other to n
+  pub sent : (count : ℕ) → sentFrom mem at n count ≡ sentFrom other to n count
 
 abbrev pub OwnWords : Type 0
-OwnWords = (mem other : List ℕ) (at n : ℕ) → part at (2 + n) mem ≡ part at (2 + n) other → ReadsAlike mem other at n
+OwnWords = (mem other : List ℕ) (at to n : ℕ) → part at (2 + n) mem ≡ part to (2 + n) other → ReadsAlike mem other at to n

@@ -143,10 +143,10 @@ module _ (s : State) (r : Record) (mem other : List ℕ) (f : Frame) (d : List �
 -- ---- a read
 
 module _ (mem other : List ℕ) (a : Area) (place : ℕ) (out : List ℕ) (same : SameElement a place mem other) where
-  element-alike : Roomy a (length mem) → place < a .count → ReadsAlike mem other (placeIn a place) (dataWords a)
+  element-alike : Roomy a (length mem) → place < a .count → ReadsAlike mem other (placeIn a place) (placeIn a place) (dataWords a)
   element-alike room l =
       let end = element-inside mem a place room l in
-      own-words mem other (placeIn a place) (dataWords a)
+      own-words mem other (placeIn a place) (placeIn a place) (dataWords a)
       (part-same (placeIn a place) (2 + dataWords a) mem other (omega arith) (omega (arith, same .size))
       (λ i h. same .words (placeIn a place + i) (record { from = omega arith; below = omega (arith, room .header) })))
 

@@ -117,7 +117,7 @@ module _ (s : State) (mem other : List ℕ) (a : Alike (s .regs) mem other) wher
   bytes-same buffer count h l =
       let room = place-room (txArea (s .regs)) buffer (length mem) (tx-roomy (s .regs) (length mem) (h .legal)) l in
       let n : 2 + dataWords (txArea (s .regs)) ≡ txArea (s .regs) .each = omega (arith, tx-each (s .regs)) in
-      own-words mem other (placeIn (txArea (s .regs)) buffer) (dataWords (txArea (s .regs)))
+      own-words mem other (placeIn (txArea (s .regs)) buffer) (placeIn (txArea (s .regs)) buffer) (dataWords (txArea (s .regs)))
       (part-same (placeIn (txArea (s .regs)) buffer) (2 + dataWords (txArea (s .regs))) mem other (omega (arith, room, n)) (omega (arith, room, n, a .size))
       (λ i c. word-same (txArea (s .regs)) mem other (a .tx) buffer l i (omega (arith, n))))
       .sent count

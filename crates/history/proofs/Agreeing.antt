@@ -1,0 +1,138 @@
+-- The book agrees with a state and a memory; and it still does when one part of them changes and the book with it.
+-- Assumes nothing.
+use Prim.Native.Nat.{ℕ, zero, suc, _≤_, _<_, _^_}
+use mathlib.Core.Path.{_≡_, refl, sym, _∙_, subst}
+use mathlib.Core.Bool.{Bool, true, false}
+use mathlib.Core.List.{List}
+use native.Mathlib.Omega.{arith}
+use lib.ListN.{length}
+use Rattle.words.specs.Bits.{isSet}
+use Rattle.ring.specs.declared.Ring.{Ring}
+use Rattle.registers.specs.declared.Registers.{Registers}
+use Rattle.layout.specs.Legal.{Legal}
+use Rattle.layout.specs.Sections.{memoryWords}
+use Rattle.engine.specs.Areas.{fifoArea, bufferArea, eventArea, txArea, Roomy}
+use Rattle.engine.specs.States.{fifoRing, withFifo, withNewData}
+use Rattle.engine.specs.declared.areas.Area.{Area}
+use Rattle.engine.specs.declared.keeping.Keeper.{Keeper}
+use Rattle.engine.specs.declared.state.State.{State}
+use Rattle.engine.proofs.Rooms.{buffer-roomy, tx-roomy}
+use Rattle.receiving.specs.Fifos.{keeperOf}
+use Rattle.choosing.specs.Reporting.{eventKeeper}
+use Rattle.ledger.specs.Ledgers.{Ledger}
+use Rattle.ledger.specs.Balance
+use Rattle.ledger.specs.Standing.{KeptOutside, Holds, Told, elementAt}
+use Rattle.ledger.proofs.Holding.{apart-holds}
+use Rattle.ledger.proofs.Stores.{kept-apart, kept-refl, element-kept}
+use Rattle.requests.specs.Requests
+use Rattle.requests.specs.Standing.{Agrees, SameIn, SameBeside, RestSame}
+use Rattle.requests.proofs.Steps.{elsewhere-agrees}
+use Rattle.history.specs.Books.{Book, InBuffer, fifoLedger, withFifoLedger, withSending, withBuffers, lastIn}
+use Rattle.history.proofs.Sections.{own, own-fifo, own-apart, Rest, rest-kept}
+
+-- a ring, its elements and its ledger agree
+pub record RingAgrees (k : Keeper) (a : Area) (l : Ledger) (q : Ring) (mem : List ℕ) : Type 0 where
+  pub holds : Holds k a (l .held) q mem
+  pub told : Told k l q
+  pub balanced : Balance.Balanced l
+
+-- each Rx buffer that has new data holds what was last stored in it
+pub record BuffersAgree (g : Registers) (newdata : ℕ) (buffered : List InBuffer) (mem : List ℕ) : Type 0 where
+  pub inside : (n : ℕ) → isSet newdata n ≡ true → n < g .buffers
+  pub words : (n : ℕ) → isSet newdata n ≡ true → elementAt (bufferArea g) n mem ≡ lastIn n buffered
+
+-- all parts of the book
+pub record Agreed (g : Registers) (began : List ℕ) (b : Book) (s : State) (mem : List ℕ) : Type 0 where
+  pub size : length mem ≡ length began
+  pub fifos : (fifo : ℕ) → fifo ≤ 1 → RingAgrees (keeperOf g fifo) (fifoArea g fifo) (fifoLedger b fifo) (fifoRing s fifo) mem
+  pub events : RingAgrees (eventKeeper g) (eventArea g) (b .events) (s .events) mem
+  pub requests : Agrees g (b .requests) s mem
+  pub newdata : s .newdata ≡ b .newdata
+  pub buffers : BuffersAgree g (b .newdata) (b .buffered) mem
+  pub rest : Rest g began mem
+
+-- ---- a change in section 2 + i leaves the others
+
+module _ (g : Registers) (mem next : List ℕ) (legal : Legal memoryWords g (length mem)) (i : ℕ) (own-i : i < 5) (kept : KeptOutside (own g i) mem next) where
+  ring-elsewhere : (j : ℕ) → j < 5 → (i ≡ j → ⊥) → (k : Keeper) (l : Ledger) (q : Ring) → RingAgrees k (own g j) l q mem → RingAgrees k (own g j) l q next
+  ring-elsewhere j own-j ne k l q r = record {
+    holds = apart-holds k (own g j) (l .held) q mem (r .holds) (own g i) next kept (own-apart g (length mem) legal i j own-i own-j ne);
+    told = r .told;
+    balanced = r .balanced;
+  }
+
+  fifo-elsewhere : (fifo : ℕ) → fifo ≤ 1 → (i ≡ fifo → ⊥) → (k : Keeper) (l : Ledger) (q : Ring) → RingAgrees k (fifoArea g fifo) l q mem → RingAgrees k (fifoArea g fifo) l q next
+  fifo-elsewhere fifo m ne k l q r =
+      let e = own-fifo g fifo m in
+      subst (λ (a : Area). RingAgrees k a l q next) e (ring-elsewhere fifo (omega arith) ne k l q (subst (λ (a : Area). RingAgrees k a l q mem) (sym e) r))
+
+  buffers-elsewhere : (i ≡ 2 → ⊥) → (newdata : ℕ) (buffered : List InBuffer) → BuffersAgree g newdata buffered mem → BuffersAgree g newdata buffered next
+  buffers-elsewhere ne newdata buffered r = record {
+    inside = r .inside;
+    words = λ n e.
+        element-kept (bufferArea g) mem next (buffer-roomy g (length mem) legal .room)
+        (kept-apart (own g 2) (own g i) mem next kept (own-apart g (length mem) legal i 2 own-i (omega arith) ne)) n (r .inside n e)
+        ∙ r .words n e;
+  }
+
+  requests-elsewhere : i < 4 → (l : Requests.Book) (s after : State) → after .pending ≡ s .pending → after .shared ≡ s .shared → Agrees g l s mem → Agrees g l after next
+  requests-elsewhere h l s after p q r =
+      let same = kept-apart (own g 4) (own g i) mem next kept (own-apart g (length mem) legal i 4 own-i (omega arith) (λ e. omega arith)) in
+      elsewhere-agrees g l s after mem next p q (tx-roomy g (length mem) legal) (record { size = same .size; words = λ k n. same .within k (n .from) (n .below) }) r
+
+-- ---- one part changes
+
+module _ (g : Registers) (began : List ℕ) (b : Book) (s : State) (mem : List ℕ) (legal : Legal memoryWords g (length mem)) (h : Agreed g began b s mem) (next : List ℕ) where
+  -- FIFO 0 or 1
+  pub fifo-agreed : (fifo : ℕ) → fifo ≤ 1 → (l : Ledger) (q : Ring) → KeptOutside (fifoArea g fifo) mem next
+      → RingAgrees (keeperOf g fifo) (fifoArea g fifo) l q next → Agreed g began (withFifoLedger b fifo l) (withFifo s fifo q) next
+  unfolding fifoLedger withFifoLedger fifoRing withFifo
+  fifo-agreed fifo m l q outside r =
+      let kept = subst (λ (a : Area). KeptOutside a mem next) (sym (own-fifo g fifo m)) outside in
+      record {
+        size = kept .size ∙ h .size;
+        fifos = λ other n. both fifo other m n outside r;
+        events = ring-elsewhere g mem next legal fifo (omega arith) kept 3 (omega arith) (λ e. omega arith) _ _ _ (h .events);
+        requests = requests-elsewhere g mem next legal fifo (omega arith) kept (omega arith) (b .requests) s (withFifo s fifo q) refl refl (h .requests);
+        newdata = h .newdata;
+        buffers = buffers-elsewhere g mem next legal fifo (omega arith) kept (λ e. omega arith) _ _ (h .buffers);
+        rest = rest-kept g began mem (h .rest) fifo (omega arith) next kept;
+      }
+    where
+      both : (fifo other : ℕ) → fifo ≤ 1 → other ≤ 1 → KeptOutside (fifoArea g fifo) mem next → RingAgrees (keeperOf g fifo) (fifoArea g fifo) l q next
+          → RingAgrees (keeperOf g other) (fifoArea g other) (fifoLedger (withFifoLedger b fifo l) other) (fifoRing (withFifo s fifo q) other) next
+      both zero zero m n kept r = r
+      both (suc zero) (suc zero) m n kept r = r
+      both zero (suc zero) m n kept r = fifo-elsewhere g mem next legal 0 (omega arith) kept 1 n (λ e. omega arith) _ _ _ (h .fifos 1 n)
+      both (suc zero) zero m n kept r = fifo-elsewhere g mem next legal 1 (omega arith) kept 0 n (λ e. omega arith) _ _ _ (h .fifos 0 n)
+      both (suc (suc k)) other m n kept r = absurd (omega arith)
+      both zero (suc (suc k)) m n kept r = absurd (omega arith)
+      both (suc zero) (suc (suc k)) m n kept r = absurd (omega arith)
+
+  -- the Rx buffers
+  pub buffers-agreed : (newdata : ℕ) (buffered : List InBuffer) → KeptOutside (bufferArea g) mem next
+      → BuffersAgree g newdata buffered next → Agreed g began (withBuffers b newdata buffered) (withNewData s newdata) next
+  unfolding fifoLedger fifoRing
+  buffers-agreed newdata buffered kept r = record {
+    size = kept .size ∙ h .size;
+    fifos = λ fifo n. fifo-elsewhere g mem next legal 2 (omega arith) kept fifo n (λ e. omega arith) _ _ _ (h .fifos fifo n);
+    events = ring-elsewhere g mem next legal 2 (omega arith) kept 3 (omega arith) (λ e. omega arith) _ _ _ (h .events);
+    requests = requests-elsewhere g mem next legal 2 (omega arith) kept (omega arith) (b .requests) s (withNewData s newdata) refl refl (h .requests);
+    newdata = refl;
+    buffers = r;
+    rest = rest-kept g began mem (h .rest) 2 (omega arith) next kept;
+  }
+
+  -- the event list or the Tx buffers, sections 5 and 6
+  pub sending-agreed : (i : ℕ) → i < 5 → 2 < i → KeptOutside (own g i) mem next → (after : State) → RestSame s after → (events : Ledger) (requests : Requests.Book)
+      → RingAgrees (eventKeeper g) (eventArea g) events (after .events) next → Agrees g requests after next → Agreed g began (withSending b events requests) after next
+  unfolding fifoLedger fifoRing
+  sending-agreed i own-i m kept after same events requests r t = record {
+    size = kept .size ∙ h .size;
+    fifos = λ fifo n. rw (same .fifo0, same .fifo1) (fifo-elsewhere g mem next legal i own-i kept fifo n (λ e. omega arith) _ _ _ (h .fifos fifo n));
+    events = r;
+    requests = t;
+    newdata = same .newdata ∙ h .newdata;
+    buffers = buffers-elsewhere g mem next legal i own-i kept (λ e. omega arith) _ _ (h .buffers);
+    rest = rest-kept g began mem (h .rest) i own-i next kept;
+  }

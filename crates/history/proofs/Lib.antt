@@ -1,0 +1,5 @@
+pub mod Sections
+pub mod Agreeing
+pub mod Elements
+pub mod Buffers
+pub mod Receiving

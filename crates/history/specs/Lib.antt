@@ -1,0 +1,3 @@
+pub mod Books
+pub mod Expected
+pub mod Demand3
