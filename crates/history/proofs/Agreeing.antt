@@ -1,8 +1,8 @@
 -- The book agrees with a state and a memory; and it still does when one part of them changes and the book with it.
 -- Assumes nothing.
-use Prim.Native.Nat.{ℕ, zero, suc, _≤_, _<_, _^_}
+use Prim.Native.Nat.{ℕ, zero, suc, _≤_, _<_}
 use mathlib.Core.Path.{_≡_, refl, sym, _∙_, subst}
-use mathlib.Core.Bool.{Bool, true, false}
+use mathlib.Core.Bool.{true}
 use mathlib.Core.List.{List}
 use native.Mathlib.Omega.{arith}
 use lib.ListN.{length}
@@ -11,7 +11,7 @@ use Rattle.ring.specs.declared.Ring.{Ring}
 use Rattle.registers.specs.declared.Registers.{Registers}
 use Rattle.layout.specs.Legal.{Legal}
 use Rattle.layout.specs.Sections.{memoryWords}
-use Rattle.engine.specs.Areas.{fifoArea, bufferArea, eventArea, txArea, Roomy}
+use Rattle.engine.specs.Areas.{fifoArea, bufferArea, eventArea}
 use Rattle.engine.specs.States.{fifoRing, withFifo, withNewData}
 use Rattle.engine.specs.declared.areas.Area.{Area}
 use Rattle.engine.specs.declared.keeping.Keeper.{Keeper}
@@ -23,9 +23,9 @@ use Rattle.ledger.specs.Ledgers.{Ledger}
 use Rattle.ledger.specs.Balance
 use Rattle.ledger.specs.Standing.{KeptOutside, Holds, Told, elementAt}
 use Rattle.ledger.proofs.Holding.{apart-holds}
-use Rattle.ledger.proofs.Stores.{kept-apart, kept-refl, element-kept}
+use Rattle.ledger.proofs.Stores.{kept-apart, element-kept}
 use Rattle.requests.specs.Requests
-use Rattle.requests.specs.Standing.{Agrees, SameIn, SameBeside, RestSame}
+use Rattle.requests.specs.Standing.{Agrees, RestSame}
 use Rattle.requests.proofs.Steps.{elsewhere-agrees}
 use Rattle.history.specs.Books.{Book, InBuffer, fifoLedger, withFifoLedger, withSending, withBuffers, lastIn}
 use Rattle.history.proofs.Sections.{own, own-fifo, own-apart, Rest, rest-kept}
@@ -43,6 +43,7 @@ pub record BuffersAgree (g : Registers) (newdata : ℕ) (buffered : List InBuffe
 
 -- all parts of the book
 pub record Agreed (g : Registers) (began : List ℕ) (b : Book) (s : State) (mem : List ℕ) : Type 0 where
+  pub regs : s .regs ≡ g
   pub size : length mem ≡ length began
   pub fifos : (fifo : ℕ) → fifo ≤ 1 → RingAgrees (keeperOf g fifo) (fifoArea g fifo) (fifoLedger b fifo) (fifoRing s fifo) mem
   pub events : RingAgrees (eventKeeper g) (eventArea g) (b .events) (s .events) mem
@@ -54,7 +55,7 @@ pub record Agreed (g : Registers) (began : List ℕ) (b : Book) (s : State) (mem
 -- ---- a change in section 2 + i leaves the others
 
 module _ (g : Registers) (mem next : List ℕ) (legal : Legal memoryWords g (length mem)) (i : ℕ) (own-i : i < 5) (kept : KeptOutside (own g i) mem next) where
-  ring-elsewhere : (j : ℕ) → j < 5 → (i ≡ j → ⊥) → (k : Keeper) (l : Ledger) (q : Ring) → RingAgrees k (own g j) l q mem → RingAgrees k (own g j) l q next
+  pub ring-elsewhere : (j : ℕ) → j < 5 → (i ≡ j → ⊥) → (k : Keeper) (l : Ledger) (q : Ring) → RingAgrees k (own g j) l q mem → RingAgrees k (own g j) l q next
   ring-elsewhere j own-j ne k l q r = record {
     holds = apart-holds k (own g j) (l .held) q mem (r .holds) (own g i) next kept (own-apart g (length mem) legal i j own-i own-j ne);
     told = r .told;
@@ -90,6 +91,7 @@ module _ (g : Registers) (began : List ℕ) (b : Book) (s : State) (mem : List �
   fifo-agreed fifo m l q outside r =
       let kept = subst (λ (a : Area). KeptOutside a mem next) (sym (own-fifo g fifo m)) outside in
       record {
+        regs = h .regs;
         size = kept .size ∙ h .size;
         fifos = λ other n. both fifo other m n outside r;
         events = ring-elsewhere g mem next legal fifo (omega arith) kept 3 (omega arith) (λ e. omega arith) _ _ _ (h .events);
@@ -114,6 +116,7 @@ module _ (g : Registers) (began : List ℕ) (b : Book) (s : State) (mem : List �
       → BuffersAgree g newdata buffered next → Agreed g began (withBuffers b newdata buffered) (withNewData s newdata) next
   unfolding fifoLedger fifoRing
   buffers-agreed newdata buffered kept r = record {
+    regs = h .regs;
     size = kept .size ∙ h .size;
     fifos = λ fifo n. fifo-elsewhere g mem next legal 2 (omega arith) kept fifo n (λ e. omega arith) _ _ _ (h .fifos fifo n);
     events = ring-elsewhere g mem next legal 2 (omega arith) kept 3 (omega arith) (λ e. omega arith) _ _ _ (h .events);
@@ -128,6 +131,7 @@ module _ (g : Registers) (began : List ℕ) (b : Book) (s : State) (mem : List �
       → RingAgrees (eventKeeper g) (eventArea g) events (after .events) next → Agrees g requests after next → Agreed g began (withSending b events requests) after next
   unfolding fifoLedger fifoRing
   sending-agreed i own-i m kept after same events requests r t = record {
+    regs = same .regs ∙ h .regs;
     size = kept .size ∙ h .size;
     fifos = λ fifo n. rw (same .fifo0, same .fifo1) (fifo-elsewhere g mem next legal i own-i kept fifo n (λ e. omega arith) _ _ _ (h .fifos fifo n));
     events = r;

@@ -1,7 +1,7 @@
 -- Calls 2 to 6: the book tells their answers, and agrees after them.
 -- Assumes nothing.
-use Prim.Native.Nat.{ℕ, _+_, _≤_, _<_}
-use mathlib.Core.Path.{_≡_, refl, sym, ap, ap₂, _∙_, subst}
+use Prim.Native.Nat.{ℕ, _≤_, _<_}
+use mathlib.Core.Path.{_≡_, refl, sym, ap, _∙_, subst}
 use mathlib.Core.Bool.{Bool, true, false, not, _&&_, _||_}
 use mathlib.Core.List.{List, [], _∷_}
 use native.Mathlib.Omega.{arith}
@@ -14,7 +14,6 @@ use Rattle.words.specs.Rules.{Ruling, allowed, refuseIf, first, settle}
 use Rattle.words.specs.Runs.{splice}
 use Rattle.ring.specs.Rings.{held, releasedThrough}
 use Rattle.registers.specs.declared.Registers.{Registers}
-use Rattle.ring.specs.declared.Ring.{Ring}
 use Rattle.frame.specs.Malformed.{malformed}
 use Rattle.frame.specs.declared.Frame.{Frame}
 use Rattle.frame.specs.declared.Matched.{Matched}
@@ -33,7 +32,7 @@ use Rattle.engine.specs.Answers.{Says, refuses, answers, done, wrongOutput}
 use Rattle.engine.specs.Areas.{fifoSize, fifoArea, bufferArea, placeIn, Roomy, dataWords}
 use Rattle.engine.specs.Fitness.{unfit}
 use Rattle.engine.specs.Keeping.{keepRule, slotMemory}
-use Rattle.engine.specs.States.{fifoRing, withNewData}
+use Rattle.engine.specs.States.{fifoRing}
 use Rattle.engine.specs.declared.areas.Area.{Area}
 use Rattle.engine.specs.declared.keeping.Slot.{Slot}
 use Rattle.engine.specs.declared.keeping.Slot.the-variants.{At, Lost}
@@ -48,16 +47,16 @@ use Rattle.receiving.specs.Releasing.{ReleaseOutcome, acknowledgeRule, releaseR
 use Rattle.receiving.proofs.Judgements.{all-three}
 use Rattle.receiving.proofs.Outcomes.{receive-cases, acknowledge-cases, release-cases}
 use Rattle.receiving.proofs.Takes.{legal-lists}
-use Rattle.ledger.specs.Ledgers.{Ledger, noteArrival, noteRelease, isHeldAt, entryAt}
+use Rattle.ledger.specs.Ledgers.{noteArrival, noteRelease, isHeldAt, entryAt}
 use Rattle.ledger.proofs.Arrivals.{arrival-slot, arrival-told, arrival-holds, arrival-kept}
 use Rattle.ledger.proofs.Balances.{arrival-balanced, release-balanced}
 use Rattle.ledger.proofs.Releases.{release-test, release-holds, release-told}
 use Rattle.ledger.proofs.Seen.{seen-words}
 use Rattle.ledger.proofs.Stores.{kept-refl, store-kept}
 use Rattle.requests.proofs.Steps.{told-by}
-use Rattle.history.specs.Books.{Book, InBuffer, fifoLedger, withFifoLedger, withBuffers, lastIn, noted, noteFate}
+use Rattle.history.specs.Books.{Book, fifoLedger, withFifoLedger, withBuffers, lastIn, noted, noteFate}
 use Rattle.history.specs.Expected.{fateOf, expectReceive, readOf, fifoRules, bufferRules, expectReadFifo, expectAcknowledge, expectReadBuffer, expectRelease}
-use Rattle.history.proofs.Agreeing.{RingAgrees, BuffersAgree, Agreed, fifo-agreed, buffers-agreed}
+use Rattle.history.proofs.Agreeing.{Agreed, fifo-agreed, buffers-agreed}
 use Rattle.history.proofs.Buffers.{put-buffer, free-buffer}
 use Rattle.history.proofs.Elements.{settle-alike, read-alone}
 use Rattle.history.proofs.Sections.{lists-stay}

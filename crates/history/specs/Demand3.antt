@@ -12,6 +12,8 @@ use Rattle.registers.specs.declared.Registers.{Registers}
 use Rattle.layout.specs.Legal.{Has}
 use Rattle.layout.specs.Sections.{memoryWords}
 use Rattle.layout.specs.Verdict.{verdict}
+use Rattle.filter.specs.Promises.{SameSection}
+use Rattle.filter.specs.Search.{listOf}
 use Rattle.engine.specs.Answers.{wrongOutput}
 use Rattle.engine.specs.Areas.{fifoArea, bufferArea, eventArea}
 use Rattle.engine.specs.States.{fifoRing}
@@ -98,6 +100,13 @@ Demand3 = (r : Run) → NothingVanishes (r .regs) (r .before .memory) (bookOf r)
 -- every answer of every call can be told from the history, the inputs and the start
 abbrev pub Answers : Type 0
 Answers = (r : Run) → trace step (began r) (r .calls) ≡ foretold (note (r .regs)) (expect (r .regs) (r .before .memory)) emptyBook (r .calls)
+
+-- and of the memory at the start, the filter words alone are needed for it
+abbrev pub FiltersSuffice : Type 0
+FiltersSuffice =
+    (g : Registers) (began other : List ℕ) (b : Book) (c : Call)
+    → length began ≡ length other → ((xtd : Bool) → SameSection (listOf g xtd) began other)
+    → expect g began b c ≡ expect g other b c
 
 -- no call after a run answers 20
 abbrev pub Never20 : Type 0

@@ -1,7 +1,7 @@
 -- What every call answers, told from the book, the inputs, and the registers and filter words of the start.
 -- Of the memory at the start, here called began, the words of the filter lists are looked at and no others.
 use Prim.Native.Nat.{ℕ, _-_, _%_}
-use mathlib.Core.Bool.{Bool, not, _&&_, _||_}
+use mathlib.Core.Bool.{not, _&&_, _||_}
 use mathlib.Core.List.{List, [], _∷_}
 use lib.Dec.{ltb, leb}
 use lib.ListN.{length}

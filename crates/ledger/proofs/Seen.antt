@@ -7,7 +7,7 @@ use mathlib.Core.List.{List}
 use native.Mathlib.Nat.{mod-add-mod, add-mod-right}
 use native.Mathlib.Omega.{arith}
 use lib.ListN.{length, getD}
-use Rattle.ring.specs.Rings.{placeAfter, age, held}
+use Rattle.ring.specs.Rings.{Fit, placeAfter, putPlace, age, held}
 use Rattle.ring.specs.declared.Ring.{Ring}
 use Rattle.ring.proofs.Circle.{place-zero, place-round, place-released}
 use Rattle.ring.proofs.Holding.{held-age}
@@ -19,6 +19,22 @@ use Rattle.ledger.specs.Balance.{Balanced}
 use Rattle.ledger.specs.Standing.{elementAt, Holds, Told}
 use Rattle.ledger.proofs.Tallies.{tally-all}
 use Rattle.ledger.proofs.Places.{entry-at, held-here, held-there, held-once}
+
+-- where the next place is that of the n-th in turn, the oldest place is that of the one so many before it as are held
+pub oldest-in-turn : (q : Ring) (size n : ℕ) → Fit q size → putPlace q size ≡ n % size → q .fill ≤ n → q .oldest ≡ (n - q .fill) % size
+unfolding placeAfter
+oldest-in-turn q size n fit t some =
+    let f : ℕ = size - q .fill in
+    let turn : 0 + size ≡ q .fill + f = omega (arith, fit .room) in
+    let rest : n + f ≡ n - q .fill + size = omega (arith, fit .room) in
+    sym (place-zero q size fit)
+    ∙ sym (place-round q size 0)
+    ∙ ap (placeAfter q size) turn
+    ∙ sym (place-released q size (q .fill) f)
+    ∙ ap (λ (p : ℕ). (p + f) % size) t
+    ∙ mod-add-mod n size f
+    ∙ ap (λ (m : ℕ). m % size) rest
+    ∙ add-mod-right (n - q .fill) size
 
 module _ (k : Keeper) (a : Area) (l : Ledger) (q : Ring) (mem : List ℕ) (h : Holds k a (l .held) q mem) where
   pub seen-fill : q .fill ≡ length (l .held)
@@ -65,16 +81,4 @@ module _ (k : Keeper) (a : Area) (l : Ledger) (q : Ring) (mem : List ℕ) (h : H
 
   -- the oldest place, also where none is held
   pub seen-oldest : Told k l q → Balanced l → q .oldest ≡ expectOldest k l
-  unfolding placeAfter
-  seen-oldest t b =
-      let f : ℕ = k .size - q .fill in
-      let turn : 0 + k .size ≡ q .fill + f = omega (arith, h .ring .room) in
-      let rest : storedSoFar l + f ≡ storedSoFar l - length (l .held) + k .size = omega (arith, h .fill, h .ring .room, stored-held b) in
-      sym (place-zero q (k .size) (h .ring))
-      ∙ sym (place-round q (k .size) 0)
-      ∙ ap (placeAfter q (k .size)) turn
-      ∙ sym (place-released q (k .size) (q .fill) f)
-      ∙ ap (λ (p : ℕ). (p + f) % k .size) t
-      ∙ mod-add-mod (storedSoFar l) (k .size) f
-      ∙ ap (λ (n : ℕ). n % k .size) rest
-      ∙ add-mod-right (storedSoFar l - length (l .held)) (k .size)
+  seen-oldest t b = oldest-in-turn q (k .size) (storedSoFar l) (h .ring) t (stored-held b) ∙ ap (λ (n : ℕ). (storedSoFar l - n) % k .size) (sym (h .fill))
