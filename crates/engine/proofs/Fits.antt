@@ -3,12 +3,13 @@
 use Prim.Native.Nat.{ℕ, _+_, _-_, _%_, _^_}
 use mathlib.Core.Path.{_≡_, refl, sym, ap, _∙_}
 use mathlib.Core.Bool.{Bool, true, false}
+use mathlib.Core.List.{[], _∷_}
 use native.Mathlib.Nat.{zero-div}
 use native.Mathlib.Omega.{arith}
 use lib.Dec.{eqb}
 use lib.Pow.{pow-pos}
-use Rattle.words.specs.Bits.{bit, withoutMask}
-use Rattle.words.specs.Rules.{Ruling, allowed, settle}
+use Rattle.words.specs.Bits.{bit, isSet, howMany, withoutMask}
+use Rattle.words.specs.Rules.{Ruling, allowed, refuseIf, first, settle}
 use Rattle.words.proofs.Bits.{bit-and}
 use Rattle.words.proofs.Counting.{ones-many}
 use Rattle.ring.specs.Rings.{noneHeld}
@@ -22,7 +23,12 @@ use Rattle.engine.specs.Areas.{fifoSize, eventSize, dedicated, txCount}
 use Rattle.engine.specs.Fitness.{sharedRingSize, unfit, Sound}
 use Rattle.engine.specs.Flags.{cleared}
 use Rattle.engine.specs.Promises.{NeverStartedIsUnfit, StartIsFit, ClearKeepsFit, RefusedStartChangesNothing, PendingIsCounted}
+use Rattle.engine.specs.Answers.{refuses, answers}
+use Rattle.engine.specs.Overview.{clearRule, statusOf, statusRule}
 use Rattle.engine.specs.Starting.{startRule}
+use Rattle.engine.specs.declared.overview.Overview.{Overview}
+use Rattle.engine.specs.declared.state.State.{State}
+use Rattle.engine.specs.declared.state.Record.{Record}
 use Rattle.engine.specs.States.{emptyState, noFlags, neverStarted}
 use Rattle.engine.proofs.Cases.{shared-most}
 use Rattle.engine.proofs.Sounds.{sound-of, flags-of, fit-of}
@@ -44,14 +50,22 @@ empty-sound regs words e = record {
   heldBits = λ p h. ap (λ (x : ℕ). eqb x 1) (no-bit (dedicated regs + p)) ∙ sym (empty-not-held noneHeld (sharedRingSize regs) p refl);
 }
 
-pub start-is-fit : StartIsFit
-start-is-fit regs words e = fit-of (emptyState regs) noFlags words (empty-sound regs words e) (λ k f. no-bit k)
+pub empty-is-fit : (regs : Registers) (words : ℕ) → verdict memoryWords regs words ≡ allowed → unfit (emptyState regs) noFlags words ≡ false
+empty-is-fit regs words e = fit-of (emptyState regs) noFlags words (empty-sound regs words e) (λ k f. no-bit k)
 
-pub clear-keeps-fit : ClearKeepsFit
+pub start-is-fit : StartIsFit
+unfolding startRule
+start-is-fit old status regs words e = rw e (empty-is-fit regs words e)
+
+cleared-fit : (s : State) (r : Record) (words mask : ℕ) → unfit s r words ≡ false → unfit s (cleared r mask) words ≡ false
 unfolding cleared withoutMask
-clear-keeps-fit s r words mask e =
+cleared-fit s r words mask e =
     fit-of s (cleared r mask) words (sound-of s r words e)
     (λ k f. omega (arith, bit-and (r .flags) (2 ^ 32 - 1 - mask) k, flags-of s r words e k f))
+
+pub clear-keeps-fit : ClearKeepsFit
+unfolding clearRule
+clear-keeps-fit s r words mask e = rw e (cleared-fit s r words mask e)
 
 pub never-started-is-unfit : NeverStartedIsUnfit
 never-started-is-unfit r words = go (unfit neverStarted r words) refl
@@ -67,5 +81,13 @@ unfolding startRule
 refused-start-changes-nothing old status regs words n e =
     (ap (λ (v : Ruling Refusal). settle v (emptyState regs) (λ m. old)) e, ap (λ (v : Ruling Refusal). settle v noFlags (λ m. status)) e)
 
+pub pending-counted : (s : State) (words : ℕ) → Sound s words → statusOf s .pending ≡ howMany (isSet (s .pending)) (txCount (s .regs))
+pending-counted s words h = ones-many (txCount (s .regs)) (s .pending) (h .pending)
+
 pub pending-is-counted : PendingIsCounted
-pending-is-counted s words h = ones-many (txCount (s .regs)) (s .pending) (h .pending)
+unfolding statusRule
+pending-is-counted s r words t e = go (unfit s r words) refl e
+  where
+    go : (b : Bool) → unfit s r words ≡ b → settle (first (refuseIf b 20 ∷ [])) (answers (statusOf s)) refuses ≡ answers t → t .pending ≡ howMany (isSet (s .pending)) (txCount (s .regs))
+    go true f c = cc
+    go false f c = let same : t ≡ statusOf s = cc in ap (λ (o : Overview). o .pending) same ∙ pending-counted s words (sound-of s r words f)

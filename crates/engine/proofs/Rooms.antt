@@ -29,10 +29,10 @@ module _ (a : Area) (place words : ℕ) (r : Roomy a words) (h : place < a .coun
   pub row-fits : Fits w32 (place * a .each)
   row-fits = record { fits = omega (arith, place-room, r .memory) }
 
-  pub place-fits : Fits w32 (a .start + place * a .each)
+  pub place-fits : Fits w32 (a .start .0 + place * a .each)
   place-fits = record { fits = omega (arith, place-room, r .memory) }
 
-  pub place-wide : Fits w64 (a .start + place * a .each)
+  pub place-wide : Fits w64 (a .start .0 + place * a .each)
   place-wide = record { fits = omega (arith, place-room, r .memory) }
 
 -- ---- the areas of a legal layout lie in its memory

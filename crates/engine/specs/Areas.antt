@@ -12,7 +12,7 @@ use Rattle.engine.specs.declared.areas.Area.{Area}
 
 -- so many elements of so many words each, in a section
 abbrev pub areaIn : Section → ℕ → ℕ → Area
-areaIn s count each = record { start = s .start .0; count = count; each = each }
+areaIn s count each = record { start = s .start; count = count; each = each }
 
 -- FIFO 0 or 1: its register, the size code of its elements, its size, watermark and mode
 unfoldable pub fifoWord : Registers → ℕ → ℕ
@@ -68,7 +68,7 @@ dataWords a = a .each - 2
 
 -- the first word of the element at a place
 abbrev pub placeIn : Area → ℕ → ℕ
-placeIn a place = a .start + place * a .each
+placeIn a place = a .start .0 + place * a .each
 
 -- an area that lies in a memory of so many words. 4,352 words are the most that a box will have: a bound that keeps sums of addresses small
 pub record Roomy (a : Area) (words : ℕ) : Type 0 where
@@ -76,7 +76,7 @@ pub record Roomy (a : Area) (words : ℕ) : Type 0 where
   pub header : 2 ≤ a .each
   pub most : a .each ≤ 18
   pub memory : words ≤ 4352
-  pub room : a .start + a .count * a .each ≤ words
+  pub room : a .start .0 + a .count * a .each ≤ words
 
 -- a place of such an area
 pub record HasPlace (a : Area) (place words : ℕ) : Type 0 where

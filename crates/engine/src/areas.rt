@@ -5,6 +5,7 @@ use layout::sections::fifo;
 use layout::sections::rx_buffers;
 use layout::sections::tx_buffers;
 use registers::Registers;
+use registers::WordAddress;
 use registers::kinds::Rxfc;
 use registers::kinds::Txefc;
 use registers::sizes::element_words;
@@ -13,7 +14,7 @@ ghost use Prim.Native.Nat.{_+_, _*_, _≤_, _<_};
 ghost use Rattle.engine.specs.Areas.{areaIn, fifoWord, fifoCode, fifoArea, bufferArea, eventArea, txArea, Roomy, placeIn};
 
 pub struct Area {
-    pub start: u32,
+    pub start: WordAddress,
     pub count: u32,
     pub each: u32,
 }
@@ -21,8 +22,9 @@ pub struct Area {
 fn area_in(s: Section, count: u32, each: u32) -> Area
     ensures { λ a. ⌜ a ≡ areaIn s count each ⌝ }
 {
+    let start = s.start;
     Area {
-        start: s.start.0,
+        start,
         count,
         each,
     }
@@ -91,5 +93,5 @@ pub fn place_in(a: Area, place: u32, words: usize) -> usize
     requires { ⌜ place < a .count ⌝ }
     ensures { λ at. ⌜ (at ≡ placeIn a place) × (at + a .each ≤ words) ⌝ }
 {
-    (a.start + place * a.each) as usize
+    (a.start.0 + place * a.each) as usize
 }

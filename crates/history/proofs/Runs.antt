@@ -23,7 +23,7 @@ use Rattle.engine.specs.Starting.{startRule}
 use Rattle.engine.specs.States.{emptyState, fifoRing}
 use Rattle.engine.specs.declared.areas.Area.{Area}
 use Rattle.engine.specs.declared.keeping.Keeper.{Keeper}
-use Rattle.engine.proofs.Fits.{start-is-fit}
+use Rattle.engine.proofs.Fits.{empty-is-fit}
 use Rattle.engine.proofs.Rooms.{fifo-roomy, event-roomy}
 use Rattle.receiving.specs.Fifos.{keeperOf}
 use Rattle.choosing.specs.Reporting.{eventKeeper}
@@ -81,7 +81,7 @@ unfolding step startRule
 standing-start w g e =
     let v : verdict memoryWords g (length (w .memory)) ≡ allowed = start-allowed (verdict memoryWords g (length (w .memory))) e in
     rw v (record {
-      fit = start-is-fit g (length (w .memory)) v;
+      fit = empty-is-fit g (length (w .memory)) v;
       agreed = agreed-start g (w .memory) (accepted-is-legal memoryWords g (length (w .memory)) .0 v);
     })
 

@@ -25,7 +25,7 @@ use Rattle.ledger.proofs.Stores.{apart-sym}
 
 -- section 2 + i as an area, i from 0 to 4
 abbrev pub own : Registers → ℕ → Area
-own g i = getD (fifoArea g 0 ∷ fifoArea g 1 ∷ bufferArea g ∷ eventArea g ∷ txArea g ∷ []) i (record { start = 0; count = 0; each = 0 })
+own g i = getD (fifoArea g 0 ∷ fifoArea g 1 ∷ bufferArea g ∷ eventArea g ∷ txArea g ∷ []) i (record { start = record { 0 = 0 }; count = 0; each = 0 })
 
 pub own-fifo : (g : Registers) (fifo : ℕ) → fifo ≤ 1 → own g fifo ≡ fifoArea g fifo
 own-fifo g zero h = refl
@@ -33,7 +33,7 @@ own-fifo g (suc zero) h = refl
 own-fifo g (suc (suc k)) h = absurd (omega arith)
 
 module _ (g : Registers) where
-  own-start : (i : ℕ) → i < 5 → getD (sectionsOf g) (2 + i) none .start .0 ≡ own g i .start
+  own-start : (i : ℕ) → i < 5 → getD (sectionsOf g) (2 + i) none .start .0 ≡ own g i .start .0
   unfolding fifoWord fifoCode
   own-start zero h = refl
   own-start (suc zero) h = refl
@@ -52,7 +52,7 @@ module _ (g : Registers) where
   own-size (suc (suc (suc (suc (suc i))))) h = absurd (omega arith)
 
 -- sections that lie apart are areas that do
-areas-apart : (a b : Area) (s t : Section) → s .start .0 ≡ a .start → s .words ≡ a .count * a .each → t .start .0 ≡ b .start → t .words ≡ b .count * b .each
+areas-apart : (a b : Area) (s t : Section) → s .start .0 ≡ a .start .0 → s .words ≡ a .count * a .each → t .start .0 ≡ b .start .0 → t .words ≡ b .count * b .each
     → (end s ≤ t .start .0) ⊎ (end t ≤ s .start .0) → Apart a b
 areas-apart a b s t e f p q (inl h) = inl (omega (arith, h, e, f, p))
 areas-apart a b s t e f p q (inr h) = inr (omega (arith, h, e, p, q))
@@ -77,14 +77,14 @@ Rest g began mem = (k : ℕ) → ((i : ℕ) → 2 ≤ i → i < 7 → Has g i k 
 module _ (g : Registers) (began mem : List ℕ) (rest : Rest g began mem) where
   -- a change in an own section leaves the rest
   pub rest-kept : (i : ℕ) → i < 5 → (next : List ℕ) → KeptOutside (own g i) mem next → Rest g began next
-  rest-kept i h next kept k none-has = kept .outside k (go (ltb k (own g i .start)) (leb (areaEnd (own g i)) k) refl refl) ∙ rest k none-has
+  rest-kept i h next kept k none-has = kept .outside k (go (ltb k (own g i .start .0)) (leb (areaEnd (own g i)) k) refl refl) ∙ rest k none-has
     where
-      go : (t u : Bool) → ltb k (own g i .start) ≡ t → leb (areaEnd (own g i)) k ≡ u → (k < own g i .start) ⊎ (areaEnd (own g i) ≤ k)
-      go true u e f = inl (ltb-true k (own g i .start) e)
+      go : (t u : Bool) → ltb k (own g i .start .0) ≡ t → leb (areaEnd (own g i)) k ≡ u → (k < own g i .start .0) ⊎ (areaEnd (own g i) ≤ k)
+      go true u e f = inl (ltb-true k (own g i .start .0) e)
       go false true e f = inr (leb-true (areaEnd (own g i)) k f)
       go false false e f =
           absurd (none-has (2 + i) (omega arith) (omega arith) (within-has g (2 + i) k (record {
-            from = omega (arith, ltb-false k (own g i .start) e, own-start g i h);
+            from = omega (arith, ltb-false k (own g i .start .0) e, own-start g i h);
             below = omega (arith, leb-false (areaEnd (own g i)) k f, own-start g i h, own-size g i h);
           })))
 

@@ -24,7 +24,7 @@ use Rattle.engine.specs.declared.keeping.Keeper.{Keeper}
 use Rattle.engine.specs.declared.overview.Overview.{Overview}
 use Rattle.engine.specs.declared.state.State.{State}
 use Rattle.engine.specs.declared.state.Record.{Record}
-use Rattle.engine.proofs.Fits.{pending-is-counted}
+use Rattle.engine.proofs.Fits.{pending-counted}
 use Rattle.engine.proofs.Sounds.{sound-of}
 use Rattle.receiving.specs.Fifos.{keeperOf}
 use Rattle.choosing.specs.Reporting.{eventKeeper}
@@ -136,6 +136,6 @@ status-told began b s r mem fit h =
     let f1 = ring-told (keeperOf g 1) (fifoArea g 1) (b .fifo1) (s .fifo1) mem (h .fifos 1 (omega arith)) in
     let e = ring-told (eventKeeper g) (eventArea g) (b .events) (s .events) mem (h .events) in
     let t = shared-told g b s mem (h .requests) in
-    let p = pending-is-counted s (length mem) (sound-of s r (length mem) fit) ∙ pending-told g (b .requests) s mem (h .requests) in
+    let p = pending-counted s (length mem) (sound-of s r (length mem) fit) ∙ pending-told g (b .requests) s mem (h .requests) in
     let all : statusOf s ≡ expectStatus g b = λ i. record { fifo0 = f0 i; fifo1 = f1 i; events = e i; shared = t i; pending = p i } in
     told-by (λ (o : Says Overview). o) (answers (statusOf s)) refuses (unfit s r (length mem)) [] fit ∙ ap answers all

@@ -31,7 +31,7 @@ apart-sym a b (inr h) = inl h
 pub kept-apart : (a b : Area) (mem next : List ℕ) → KeptOutside b mem next → Apart b a → KeptWithin a mem next
 kept-apart a b mem next f d = record { size = f .size; within = λ i l h. f .outside i (go i l h d) }
   where
-    go : (i : ℕ) → a .start ≤ i → i < areaEnd a → Apart b a → (i < b .start) ⊎ (areaEnd b ≤ i)
+    go : (i : ℕ) → a .start .0 ≤ i → i < areaEnd a → Apart b a → (i < b .start .0) ⊎ (areaEnd b ≤ i)
     go i l h (inl e) = inr (omega arith)
     go i l h (inr e) = inl (omega arith)
 
@@ -69,6 +69,6 @@ module _ (a : Area) (mem : List ℕ) (r : areaEnd a ≤ length mem) (p : ℕ) (h
   pub store-kept : KeptOutside a mem (splice mem (placeIn a p) ws)
   store-kept = record { size = splice-length mem (placeIn a p) ws room; outside = go }
     where
-      go : (i : ℕ) → (i < a .start) ⊎ (areaEnd a ≤ i) → getD (splice mem (placeIn a p) ws) i 0 ≡ getD mem i 0
+      go : (i : ℕ) → (i < a .start .0) ⊎ (areaEnd a ≤ i) → getD (splice mem (placeIn a p) ws) i 0 ≡ getD mem i 0
       go i (inl o) = splice-before mem (placeIn a p) ws room i (omega arith)
       go i (inr o) = splice-after mem (placeIn a p) ws room i (omega (arith, element-inside a p h))

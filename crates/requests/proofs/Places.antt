@@ -19,7 +19,7 @@ use Rattle.engine.specs.declared.areas.Area.{Area}
 use Rattle.requests.specs.Standing.{SameIn, SameBeside}
 
 module _ (a : Area) (mem : List ℕ) (room : Roomy a (length mem)) (p : ℕ) (h : p < a .count) where
-  inside : placeIn a p + a .each ≤ a .start + a .count * a .each
+  inside : placeIn a p + a .each ≤ a .start .0 + a .count * a .each
   inside = omega (arith, mul-le-mul-right (a .each) h)
 
   -- what changes nothing in the area leaves the element
@@ -50,7 +50,7 @@ module _ (a : Area) (mem : List ℕ) (room : Roomy a (length mem)) (p : ℕ) (h 
     pub store-beside : SameBeside a mem (splice mem (placeIn a p) ws)
     store-beside = record { size = splice-length mem (placeIn a p) ws fits; words = beside }
       where
-        beside : (i : ℕ) → (i < a .start) ⊎ (a .start + a .count * a .each ≤ i) → getD (splice mem (placeIn a p) ws) i 0 ≡ getD mem i 0
+        beside : (i : ℕ) → (i < a .start .0) ⊎ (a .start .0 + a .count * a .each ≤ i) → getD (splice mem (placeIn a p) ws) i 0 ≡ getD mem i 0
         beside i (inl l) = splice-before mem (placeIn a p) ws fits i (omega arith)
         beside i (inr l) = splice-after mem (placeIn a p) ws fits i (omega (arith, inside))
 

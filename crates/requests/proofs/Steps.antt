@@ -41,13 +41,13 @@ elsewhere-agrees g l s next mem other p e room same a = record {
 
 -- what changes only in another section changes no word of the Tx buffers
 pub section-elsewhere : (g : Registers) (words : ℕ) → Legal memoryWords g words → (a : Area) (i : ℕ) → i ≤ 5
-    → getD (sectionsOf g) i none .start .0 ≡ a .start → getD (sectionsOf g) i none .words ≡ a .count * a .each
+    → getD (sectionsOf g) i none .start .0 ≡ a .start .0 → getD (sectionsOf g) i none .words ≡ a .count * a .each
     → (mem other : List ℕ) → SameBeside a mem other → SameIn (txArea g) mem other
 section-elsewhere g words h a i l start size mem other same = record { size = same .size; words = λ k n. same .words k (side k n (sections-apart memoryWords g words h i 6 (omega arith) (omega arith))) }
   where
     side : (k : ℕ) → InArea (txArea g) k
         → (end (getD (sectionsOf g) i none) ≤ getD (sectionsOf g) 6 none .start .0) ⊎ (end (getD (sectionsOf g) 6 none) ≤ getD (sectionsOf g) i none .start .0)
-        → (k < a .start) ⊎ (a .start + a .count * a .each ≤ k)
+        → (k < a .start .0) ⊎ (a .start .0 + a .count * a .each ≤ k)
     side k n (inl e) = inr (omega (arith, n .from))
     side k n (inr e) =
         inl (omega (arith, n .below, section-words (bits 15 2 (g .txbc .word)) (bits 21 16 (g .txbc .word) + bits 29 24 (g .txbc .word)) (elementWords (bits 2 0 (g .txesc .word)))))

@@ -58,8 +58,8 @@ pub record Agrees (g : Registers) (l : Book) (s : State) (mem : List ℕ) : Type
 
 -- word i is one of the area's
 pub record InArea (a : Area) (i : ℕ) : Type 0 where
-  pub from : a .start ≤ i
-  pub below : i < a .start + a .count * a .each
+  pub from : a .start .0 ≤ i
+  pub below : i < a .start .0 + a .count * a .each
 
 -- nothing changed in an area
 pub record SameIn (a : Area) (mem next : List ℕ) : Type 0 where
@@ -69,7 +69,7 @@ pub record SameIn (a : Area) (mem next : List ℕ) : Type 0 where
 -- nothing changed but in an area
 pub record SameBeside (a : Area) (mem next : List ℕ) : Type 0 where
   pub size : length next ≡ length mem
-  pub words : (i : ℕ) → (i < a .start) ⊎ (a .start + a .count * a .each ≤ i) → getD next i 0 ≡ getD mem i 0
+  pub words : (i : ℕ) → (i < a .start .0) ⊎ (a .start .0 + a .count * a .each ≤ i) → getD next i 0 ≡ getD mem i 0
 
 -- of the state, what no call on the Tx buffers changes
 pub record RestSame (s next : State) : Type 0 where

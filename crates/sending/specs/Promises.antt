@@ -102,7 +102,7 @@ pub record OneOutcome : Type 0 where
 
 -- two memories have the same words in an area
 abbrev pub SameIn : Area → List ℕ → List ℕ → Type 0
-SameIn a mem other = (i : ℕ) → a .start ≤ i → i < a .start + a .count * a .each → getD mem i 0 ≡ getD other i 0
+SameIn a mem other = (i : ℕ) → a .start .0 ≤ i → i < a .start .0 + a .count * a .each → getD mem i 0 ≡ getD other i 0
 
 -- as long as each other, with the same Tx buffers and the same events
 pub record Alike (g : Registers) (mem other : List ℕ) : Type 0 where
