@@ -3,3 +3,6 @@ pub mod Exact
 pub mod Unchanged
 pub mod StillFit
 pub mod Ties
+pub mod Others
+pub mod Parts
+pub mod OnlyNamed
