@@ -6,3 +6,4 @@ pub mod Ties
 pub mod Others
 pub mod Parts
 pub mod OnlyNamed
+pub mod Tightness

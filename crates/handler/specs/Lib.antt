@@ -4,3 +4,4 @@ pub mod Rows
 pub mod Demand1
 pub mod Ties
 pub mod Named
+pub mod Tightness
