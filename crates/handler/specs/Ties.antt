@@ -49,7 +49,7 @@ Outcome (acknowledgeEvent place) = AfterAcknowledge
 Outcome (clearFlags mask) = Cleared
 Outcome status = StatusAnswer
 
--- the contract: the `ensures` of the function, of a call in a world and an outcome of it
+-- the contract, repeated from the `ensures` of the function: of a call in a world and an outcome of it
 abbrev pub Claim : World → (c : Call) → Outcome c → Type 0
 Claim w (start g) o = startOutcome o ≡ startRule (w .state) (w .status) g (length (w .memory))
 Claim w (receive f d time) o = receiveOutcome (o .0) (o .1) ≡ receiveRule (w .state) (w .status) (w .memory) f d time
