@@ -1,4 +1,4 @@
--- Demand 1: refusals by the numbers, each exactly when its row says so, and a refusal changes nothing. Statements only.
+-- Demand 1: refusals by the numbers, each exactly when its row says so; a refusal changes nothing, and a call only what it names. Statements only.
 use Prim.Native.Nat.{ℕ, _<_}
 use mathlib.Core.Path.{_≡_}
 use mathlib.Core.Bool.{Bool, true, false}
@@ -8,6 +8,7 @@ use lib.ListN.{length, getD}
 use Rattle.words.specs.Rules.{allowed, refused}
 use Rattle.engine.specs.Fitness.{unfit}
 use Rattle.handler.specs.Calls.{World, Call, readFifo, readBuffer, askChoice, refusal}
+use Rattle.handler.specs.Named.{SameBut, named, lent, output, written, Part, Same, isIn, changed}
 use Rattle.handler.specs.Steps.{step, after}
 use Rattle.handler.specs.Rows.{Row, row, rows}
 
@@ -46,3 +47,12 @@ IsFit w = unfit (w .state) (w .status) (length (w .memory)) ≡ false
 
 abbrev pub FitAfterAnyCalls : Type 0
 FitAfterAnyCalls = (cs : List Call) (w : World) → IsFit w → IsFit (after w cs)
+
+-- after every call, accepted or refused, what its answer does not name is as it was: each word of the memory, each byte of a lent output, each part of state and record
+pub record OthersStay (w : World) (c : Call) : Type 0 where
+  pub memory : SameBut (named w c (step w c .0)) (w .memory) (step w c .1 .memory)
+  pub output : SameBut (written c (step w c .0)) (lent c) (output c (step w c .0))
+  pub parts : (p : Part) → isIn p (changed c (step w c .0)) ≡ false → Same p w (step w c .1)
+
+abbrev pub OnlyTheNamedChanges : Type 0
+OnlyTheNamedChanges = (w : World) (c : Call) → OthersStay w c

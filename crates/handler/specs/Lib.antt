@@ -2,3 +2,6 @@ pub mod Calls
 pub mod Steps
 pub mod Rows
 pub mod Demand1
+pub mod Ties
+pub mod Named
+pub mod Tightness
