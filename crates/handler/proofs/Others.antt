@@ -35,10 +35,11 @@ use Rattle.engine.specs.declared.state.State.{State}
 use Rattle.engine.specs.declared.state.Record.{Record}
 use Rattle.engine.proofs.Rooms.{place-room, event-roomy}
 use Rattle.receiving.specs.Promises.{InElement, Written}
-use Rattle.receiving.specs.Reading.{ReadOutcome, readIn}
+use Rattle.taking.specs.Reading.{ReadOutcome, readIn}
 use Rattle.receiving.specs.Receive.{Fate, stored, storedBuffer, lostTo, dropped, receiveRule}
 use Rattle.receiving.proofs.OneElement.{receive-writes-one-element}
-use Rattle.receiving.proofs.Outcomes.{settled, read-fifo-cases, read-buffer-cases}
+use Rattle.words.proofs.Rulings.{settled}
+use Rattle.taking.proofs.Outcomes.{read-fifo-cases, read-buffer-cases}
 use Rattle.choosing.specs.Buffers.{headerOf}
 use Rattle.choosing.specs.Choosing.{ChoiceOutcome, choice, chosen, choiceRule, sentFrame}
 use Rattle.choosing.specs.Reporting.{ReportOutcome, eventKeeper, sentStatus, reported, SlotIn}

@@ -13,7 +13,7 @@ use Rattle.layout.specs.Verdict.{over, past, hasPartner}
 use Rattle.engine.specs.Answers.{wrongOutput}
 use Rattle.engine.specs.Areas.{dedicated, shared}
 use Rattle.engine.specs.Fitness.{unfit}
-use Rattle.receiving.specs.Fifos.{noPlace, placeFree, noBuffer, bufferFree}
+use Rattle.taking.specs.Places.{noPlace, placeFree, noBuffer, bufferFree}
 use Rattle.choosing.specs.Buffers
 use Rattle.choosing.specs.Buffers.{isPending, inSharedFifo, freePlace}
 use Rattle.choosing.specs.Choosing.{choice}

@@ -4,8 +4,8 @@ use lib.ListN.{length}
 use Rattle.engine.specs.Starting.{startRule}
 use Rattle.engine.specs.Overview.{clearRule, statusRule}
 use Rattle.receiving.specs.Receive.{receiveRule}
-use Rattle.receiving.specs.Reading.{readFifoRule, readBufferRule}
-use Rattle.receiving.specs.Releasing.{acknowledgeRule, releaseRule}
+use Rattle.taking.specs.Reading.{readFifoRule, readBufferRule}
+use Rattle.taking.specs.Releasing.{acknowledgeRule, releaseRule}
 use Rattle.sending.specs.Requesting.{dedicatedRule, sharedRule}
 use Rattle.sending.specs.Cancelling.{cancelRule}
 use Rattle.choosing.specs.Choosing.{choiceRule}
