@@ -37,7 +37,7 @@ use Rattle.receiving.proofs.Outcomes.{receive-cases}
 use Rattle.words.proofs.Rulings.{settled}
 use Rattle.taking.proofs.Outcomes.{acknowledge-cases, release-cases}
 use Rattle.choosing.specs.Buffers.{inSharedFifo}
-use Rattle.choosing.specs.Reporting.{ReportOutcome, sharedSent, sentStatus, eventKeeper, eventKept}
+use Rattle.reporting.specs.Reporting.{ReportOutcome, sharedSent, sentStatus, eventKeeper, eventKept}
 use Rattle.sending.specs.Cancelling.{CancelOutcome}
 use Rattle.sending.specs.Events.{AcknowledgeOutcome}
 use Rattle.sending.specs.Requesting.{RequestOutcome}

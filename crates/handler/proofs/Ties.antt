@@ -8,7 +8,7 @@ use Rattle.engine.specs.Overview.{ClearOutcome}
 use Rattle.engine.specs.Starting.{StartOutcome}
 use Rattle.receiving.specs.Receive.{Fate, ReceiveOutcome}
 use Rattle.taking.specs.Releasing.{ReleaseOutcome}
-use Rattle.choosing.specs.Reporting.{ReportOutcome}
+use Rattle.reporting.specs.Reporting.{ReportOutcome}
 use Rattle.sending.specs.Cancelling.{CancelOutcome}
 use Rattle.sending.specs.Events.{AcknowledgeOutcome}
 use Rattle.sending.specs.Requesting.{RequestOutcome}

@@ -17,7 +17,7 @@ use Rattle.receiving.specs.Receive.{receiveOutcome}
 use Rattle.taking.specs.Releasing.{releaseOutcome}
 use Rattle.receiving.proofs.OneOutcome as Rx
 use Rattle.choosing.specs.Choosing.{choiceOutcome}
-use Rattle.choosing.specs.Reporting.{reportOutcome}
+use Rattle.reporting.specs.Reporting.{reportOutcome}
 use Rattle.sending.specs.Cancelling.{cancelOutcome}
 use Rattle.sending.specs.Events.{meaning as eventMeaning, acknowledgeOutcome}
 use Rattle.sending.specs.Requesting.{requestOutcome}

@@ -9,7 +9,7 @@ use Rattle.taking.specs.Releasing.{acknowledgeRule, releaseRule}
 use Rattle.sending.specs.Requesting.{dedicatedRule, sharedRule}
 use Rattle.sending.specs.Cancelling.{cancelRule}
 use Rattle.choosing.specs.Choosing.{choiceRule}
-use Rattle.choosing.specs.Reporting.{reportRule}
+use Rattle.reporting.specs.Reporting.{reportRule}
 use Rattle.sending.specs.Events.{readEventRule, acknowledgeEventRule}
 use Rattle.engine.specs.declared.state.State.{State}
 use Rattle.engine.specs.declared.state.Record.{Record}

@@ -18,9 +18,9 @@ use Rattle.taking.specs.declared.reading.ReadAnswer.{ReadAnswer}
 use Rattle.receiving.specs.declared.receive.AfterReceive.{AfterReceive}
 use Rattle.taking.specs.declared.releasing.AfterRelease.{AfterRelease}
 use Rattle.choosing.specs.Choosing.{choiceOutcome, choiceRule}
-use Rattle.choosing.specs.Reporting.{reportOutcome, reportRule}
+use Rattle.reporting.specs.Reporting.{reportOutcome, reportRule}
 use Rattle.choosing.specs.declared.asking.ChoiceAnswer.{ChoiceAnswer}
-use Rattle.choosing.specs.declared.reporting.AfterReport.{AfterReport}
+use Rattle.reporting.specs.declared.report.AfterReport.{AfterReport}
 use Rattle.sending.specs.Cancelling.{cancelOutcome, cancelRule}
 use Rattle.sending.specs.Events.{meaning as eventMeaning, readEventRule, acknowledgeOutcome, acknowledgeEventRule}
 use Rattle.sending.specs.Requesting.{meaning as requestMeaning, requestOutcome, dedicatedRule, sharedRule}

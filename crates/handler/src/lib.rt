@@ -65,8 +65,8 @@ pub use choosing::asking::Chosen;
 pub use choosing::asking::ask_choice;
 
 // 11: report sent.
-pub use choosing::reporting::AfterReport;
-pub use choosing::reporting::report_sent;
+pub use reporting::report::AfterReport;
+pub use reporting::report::report_sent;
 
 // 12 and 13: read and acknowledge an event.
 pub use element::EventHeader;

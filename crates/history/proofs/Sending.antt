@@ -26,7 +26,7 @@ use Rattle.engine.specs.declared.state.State.{State}
 use Rattle.engine.specs.declared.state.Record.{Record}
 use Rattle.engine.proofs.Rooms.{event-roomy, tx-roomy}
 use Rattle.engine.proofs.Sounds.{sound-of}
-use Rattle.choosing.specs.Reporting.{ReportOutcome, sentState, sentStatus, eventKeeper, reportRule}
+use Rattle.reporting.specs.Reporting.{ReportOutcome, sentState, sentStatus, eventKeeper, reportRule}
 use Rattle.sending.specs.Events.{noEvent, eventFree, readEventRule, AcknowledgeOutcome, acknowledgeEventRule, releasedEvents}
 use Rattle.sending.proofs.Changes.{refused-leaves-all}
 use Rattle.ledger.specs.Ledgers.{noteArrival, noteRelease, expectSlot, entryAt}
