@@ -14,11 +14,11 @@ use element::RxRead;
 use filter::Reason;
 use frame::Frame;
 use frame::Matched;
-use receiving::reading;
-use receiving::reading::ReadAnswer;
 use receiving::receive;
 use receiving::receive::Received;
-use receiving::releasing;
+use taking::reading;
+use taking::reading::ReadAnswer;
+use taking::releasing;
 ghost use mathlib.Core.Path.{_≡_};
 ghost use Rattle.filter.specs.Destination.{reason as reasonNumber};
 

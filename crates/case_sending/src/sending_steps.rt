@@ -14,9 +14,9 @@ use case_text::tell;
 use choosing::asking;
 use choosing::asking::ChoiceAnswer;
 use choosing::asking::Chosen;
-use choosing::reporting;
 use element::EventHeader;
 use frame::Frame;
+use reporting::report;
 use sending::cancelling;
 use sending::events;
 use sending::events::EventAnswer;
@@ -86,7 +86,7 @@ fn choice(b: Bench, mem: &[u32], passive: bool, len: u32) {
 
 fn report(b: Bench, mem: &mut [u32], buffer: u32, passive: bool, time: u32) -> Bench {
     let at = (time % 0x1_0000) as u16;
-    let r = reporting::report_sent(b.state, b.status, mem, buffer, passive, at);
+    let r = report::report_sent(b.state, b.status, mem, buffer, passive, at);
     let reply = r.reply;
     let state = r.state;
     let status = r.status;

@@ -1,4 +1,2 @@
-pub mod Judgements
 pub mod Picks
-pub mod Reports
 pub mod Candidates

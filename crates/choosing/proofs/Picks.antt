@@ -13,6 +13,7 @@ use Rattle.words.specs.Bits.{isSet}
 use Rattle.words.specs.Runs.{splice}
 use Rattle.words.proofs.Bests.{best-wins, best-start, best-turn, best-done}
 use Rattle.words.proofs.Choices.{pick-first, pick-second}
+use Rattle.words.proofs.Rulings.{one-rule}
 use Rattle.ring.specs.declared.Ring.{Ring}
 use Rattle.frame.specs.Rank.{rank}
 use Rattle.frame.specs.Sent.{asSent}
@@ -22,22 +23,22 @@ use Rattle.element.specs.Headers.{frameIn, txHeaderIn, headed}
 use Rattle.element.specs.declared.TxHeader.{TxHeader}
 use Rattle.engine.specs.Answers.{ruled}
 use Rattle.engine.specs.Areas.{dedicated, txCount, isQueue, txArea, dataWords, placeIn, Roomy, HasPlace}
-use Rattle.engine.specs.Fitness.{Sound}
+use Rattle.engine.specs.Fitness.{unfit, fitThen, Sound}
 use Rattle.engine.specs.declared.areas.Area.{Area}
 use Rattle.engine.specs.declared.refusals.Judged
 use Rattle.engine.specs.declared.refusals.Judged.{Judged}
 use Rattle.engine.specs.declared.refusals.Refusal.{Refusal}
+use Rattle.engine.specs.declared.refusals.Refusal.the-variants.{WrongOutput}
 use Rattle.engine.specs.declared.state.State.{State}
 use Rattle.engine.specs.declared.state.Record.{Record}
+use Rattle.engine.proofs.Judgements.{allowed-sound, rest-allowed}
 use Rattle.engine.proofs.Rooms.{tx-roomy}
-use Rattle.choosing.specs.Choosing.{isCandidate, rankAt, choice, choiceOutcome, chosen, choiceRule, picked, headerIn, rankIn, betterIn, lookedAt, choiceBelow, Below, Comparable, sentIn, chosenIn, bytesOut, CanChoose}
-use Rattle.choosing.specs.Judging.{fitThen, outputRuling}
+use Rattle.choosing.specs.Choosing.{isCandidate, rankAt, choice, choiceOutcome, chosen, choiceRule, outputRuling, picked, headerIn, rankIn, betterIn, lookedAt, choiceBelow, Below, Comparable, sentIn, chosenIn, bytesOut, CanChoose}
 use Rattle.choosing.specs.declared.asking.Chosen.{Chosen}
 use Rattle.choosing.specs.declared.asking.ChoiceAnswer
 use Rattle.choosing.specs.declared.asking.ChoiceAnswer.{ChoiceAnswer}
 use Rattle.choosing.specs.declared.picking.Pick.{Pick}
 use Rattle.choosing.specs.declared.picking.Pick.the-variants.{Nobody, Buffer}
-use Rattle.choosing.proofs.Judgements.{allowed-sound, rest-allowed, one-rule}
 
 -- ---- candidates
 
@@ -166,6 +167,13 @@ module _ (mem : List ℕ) (a : Area) (buffer : ℕ) (fd switching passive : Bool
   chosen-bytes out last t = t ∙ ap (λ (x : Frame). bytesOut mem a buffer x out) frame-sent
 
 -- ---- the call
+
+module _ (s : State) (r : Record) (words : ℕ) (b : Bool) (e : b ≡ unfit s r words) (z : b ≡ false) (len : ℕ) where
+  pub output-wrong : (len ≡ 64 → ⊥) → ruled (Judged.the-variants.Refused WrongOutput) ≡ fitThen s r words (outputRuling len)
+  output-wrong n = simp (← e, z, ne-eqb _ _ n)
+
+  pub output-right : len ≡ 64 → ruled Judged.the-variants.Allowed ≡ fitThen s r words (outputRuling len)
+  output-right n = simp (← e, z, eq-eqb _ _ n)
 
 module _ (s : State) (mem : List ℕ) (passive : Bool) (out : List ℕ) (best : Pick) (e : picked best ≡ choice s mem) where
   pub choose-nothing : best ≡ Nobody → choiceOutcome ChoiceAnswer.the-variants.Nothing out ≡ chosen s mem passive out (choice s mem)

@@ -1,13 +1,13 @@
 -- Call 10, ask the choice: the best candidate in arbitration, and the whole outcome.
 use Prim.Native.Nat.{ℕ, _+_, _<_}
 use mathlib.Core.Path.{_≡_}
-use mathlib.Core.Bool.{Bool, _&&_}
+use mathlib.Core.Bool.{Bool, not, _&&_}
 use mathlib.Core.List.{List, [], _∷_}
 use lib.Dec.{eqb, ltb}
 use lib.ListN.{length}
 use Rattle.words.specs.Choice.{pick}
 use Rattle.words.specs.Best.{Best, nobody, somebody, better, bestBelow}
-use Rattle.words.specs.Rules.{refuseIf, first, settle}
+use Rattle.words.specs.Rules.{Ruling, refuseIf, first, settle}
 use Rattle.words.specs.Runs.{splice}
 use Rattle.frame.specs.Rank.{rank}
 use Rattle.frame.specs.Sent.{asSent}
@@ -83,6 +83,10 @@ choiceRule s r mem passive out =
     (λ n. record { says = refuses n; output = out })
 
 -- ---- the parts of it, over the area of the Tx buffers
+
+-- 30, which comes after 20
+abbrev pub outputRuling : ℕ → Ruling ℕ
+outputRuling len = first (refuseIf (not (eqb len 64)) 30 ∷ [])
 
 abbrev pub picked : Pick → Best
 picked Pick.the-variants.Nobody = nobody

@@ -1,5 +1,3 @@
 pub mod Buffers
-pub mod Judging
 pub mod Choosing
-pub mod Reporting
 pub mod Promises

@@ -22,8 +22,8 @@ ghost use Rattle.element.specs.Bytes.{lengthOf};
 ghost use Rattle.element.specs.Fitting.{InFields};
 ghost use Rattle.engine.specs.Answers.{ruled};
 ghost use Rattle.engine.specs.Areas.{HasPlace};
-ghost use Rattle.choosing.specs.Choosing.{choice, choiceOutcome, chosen as chosenRule, choiceRule, headerIn, sentIn, chosenIn, bytesOut, CanChoose};
-ghost use Rattle.choosing.specs.Judging.{fitThen, outputRuling};
+ghost use Rattle.engine.specs.Fitness.{fitThen};
+ghost use Rattle.choosing.specs.Choosing.{choice, choiceOutcome, chosen as chosenRule, choiceRule, outputRuling, headerIn, sentIn, chosenIn, bytesOut, CanChoose};
 
 // The frame to send next, as it is sent.
 pub struct Chosen {

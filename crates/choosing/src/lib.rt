@@ -1,4 +1,3 @@
-// Calls 10 and 11: ask which frame to send next, and report that it was sent.
+// Call 10, ask the choice: which frame to send next.
 pub mod asking;
 pub mod picking;
-pub mod reporting;

@@ -9,7 +9,8 @@ use native.Mathlib.Omega.{arith}
 use lib.Dec.{eqb}
 use lib.Pow.{pow-pos}
 use Rattle.words.specs.Bits.{isSet}
-use Rattle.words.specs.Fields.{onlyNamed}
+use Rattle.words.specs.Choice.{pick}
+use Rattle.words.specs.Fields.{bits, onlyNamed}
 use Rattle.words.specs.Least.{leastFrom}
 use Rattle.words.specs.Rules.{Ruling, isAllowed}
 use Rattle.words.proofs.Choices.{or-neither}
@@ -24,9 +25,10 @@ use Rattle.layout.specs.Sections.{memoryWords}
 use Rattle.layout.specs.Verdict.{Refusal, meaning, verdict}
 use Rattle.layout.specs.declared.check.Verdict.{Verdict}
 use Rattle.layout.proofs.Accepted.{accepted-is-legal}
-use Rattle.engine.specs.Areas.{fifoSize, eventSize, dedicated, shared, txCount}
+use Rattle.engine.specs.Areas.{fifoWord, fifoSize, eventSize, dedicated, shared, txCount}
 use Rattle.engine.specs.Fitness.{registersUnfit, sharedRingSize, ringsUnfit, past, bitsUnfit, differs, sharedUnfit, flagFields, flagsUnfit, unfit, Sound, FlagsSound, SharedCan}
 use Rattle.engine.specs.Promises.{FitIsSound}
+use Rattle.engine.specs.States.{fifoRing}
 use Rattle.engine.specs.declared.state.State.{State}
 use Rattle.engine.specs.declared.state.Record.{Record}
 use Rattle.engine.proofs.Cases.{shared-most}
@@ -145,6 +147,15 @@ module _ (s : State) (r : Record) (words : ℕ) where
 -- the same, as the calls test it
 pub sound-tested : (s : State) (r : Record) (words : ℕ) (b : Bool) → b ≡ unfit s r words → b ≡ false → Sound s words
 sound-tested s r words b e n = sound-of s r words (sym e ∙ n)
+
+-- the ring of FIFO 0 or 1
+pub ring-fits : (s : State) (words fifo : ℕ) → Sound s words → Fit (fifoRing s fifo) (fifoSize (s .regs) fifo)
+unfolding fifoRing fifoWord
+ring-fits s words fifo h = go (eqb fifo 0)
+  where
+    go : (b : Bool) → Fit (pick b (s .fifo0) (s .fifo1)) (bits 22 16 (pick b (s .regs .rxf0c .word) (s .regs .rxf1c .word)))
+    go true = h .fifo0
+    go false = h .fifo1
 
 pub fit-is-sound : FitIsSound
 fit-is-sound s r words = (λ e. (sound-of s r words e, flags-of s r words e), λ h. fit-of s r words (h .0) (h .1))

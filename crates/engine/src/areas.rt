@@ -23,11 +23,7 @@ fn area_in(s: Section, count: u32, each: u32) -> Area
     ensures { λ a. ⌜ a ≡ areaIn s count each ⌝ }
 {
     let start = s.start;
-    Area {
-        start,
-        count,
-        each,
-    }
+    Area { start, count, each }
 }
 
 // The register of FIFO 0 or 1.

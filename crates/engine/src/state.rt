@@ -12,7 +12,7 @@ use registers::kinds::Xidam;
 use registers::kinds::Xidfc;
 use ring::Ring;
 ghost use mathlib.Core.Path.{_≡_};
-ghost use Rattle.engine.specs.States.{emptyState, neverStarted, noFlags, fifoRing, withFifo};
+ghost use Rattle.engine.specs.States.{emptyState, neverStarted, noFlags, fifoRing, withFifo, withEvents};
 
 // Everything else is worked out from these.
 pub struct State {
@@ -97,6 +97,14 @@ impl State {
             return s;
         }
         s.fifo1 = next;
+        s
+    }
+
+    pub fn with_events(self, next: Ring) -> State
+        ensures { λ s. ⌜ s ≡ withEvents self next ⌝ }
+    {
+        let mut s = self;
+        s.events = next;
         s
     }
 }

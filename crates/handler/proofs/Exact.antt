@@ -26,12 +26,12 @@ use Rattle.engine.specs.Starting.{startRule}
 use Rattle.engine.specs.declared.state.State.{State}
 use Rattle.engine.specs.declared.state.Record.{Record}
 use Rattle.receiving.specs.Receive.{ReceiveOutcome, intoFifo, intoBuffer, intoNothing, goesTo, receiveRule}
-use Rattle.receiving.specs.Reading.{ReadOutcome, readFifoRule, readBufferRule}
-use Rattle.receiving.specs.Releasing.{ReleaseOutcome, acknowledgeRule, releaseRule}
+use Rattle.taking.specs.Reading.{ReadOutcome, readFifoRule, readBufferRule}
+use Rattle.taking.specs.Releasing.{ReleaseOutcome, acknowledgeRule, releaseRule}
 use Rattle.sending.specs.Requesting.{RequestOutcome, dedicatedRule, sharedRule}
 use Rattle.sending.specs.Cancelling.{CancelOutcome, cancelRule}
 use Rattle.choosing.specs.Choosing.{ChoiceOutcome, choice, chosen, choiceRule}
-use Rattle.choosing.specs.Reporting.{ReportOutcome, reported, reportRule}
+use Rattle.reporting.specs.Reporting.{ReportOutcome, reported, reportRule}
 use Rattle.sending.specs.Events.{AcknowledgeOutcome, readEventRule, acknowledgeEventRule}
 use Rattle.choosing.specs.Buffers.{headerOf}
 use Rattle.handler.specs.Calls.{World, Call, start, receive, readFifo, acknowledgeFifo, readBuffer, releaseBuffer, requestDedicated, requestShared, cancel, askChoice, reportSent, readEvent, acknowledgeEvent, clearFlags, status, ruled, startRuled, refusal}

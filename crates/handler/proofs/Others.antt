@@ -35,15 +35,15 @@ use Rattle.engine.specs.declared.state.State.{State}
 use Rattle.engine.specs.declared.state.Record.{Record}
 use Rattle.engine.proofs.Rooms.{place-room, event-roomy}
 use Rattle.receiving.specs.Promises.{InElement, Written}
-use Rattle.receiving.specs.Reading.{ReadOutcome, readIn}
+use Rattle.taking.specs.Reading.{ReadOutcome, readIn}
 use Rattle.receiving.specs.Receive.{Fate, stored, storedBuffer, lostTo, dropped, receiveRule}
 use Rattle.receiving.proofs.OneElement.{receive-writes-one-element}
-use Rattle.receiving.proofs.Outcomes.{settled, read-fifo-cases, read-buffer-cases}
+use Rattle.words.proofs.Rulings.{settled, all-two}
+use Rattle.taking.proofs.Outcomes.{read-fifo-cases, read-buffer-cases}
 use Rattle.choosing.specs.Buffers.{headerOf}
 use Rattle.choosing.specs.Choosing.{ChoiceOutcome, choice, chosen, choiceRule, sentFrame}
-use Rattle.choosing.specs.Reporting.{ReportOutcome, eventKeeper, sentStatus, reported, SlotIn}
-use Rattle.choosing.proofs.Judgements.{all-two}
-use Rattle.choosing.proofs.Reports.{kept-in}
+use Rattle.reporting.specs.Reporting.{ReportOutcome, eventKeeper, sentStatus, reported, SlotIn}
+use Rattle.reporting.proofs.Reports.{kept-in}
 use Rattle.sending.specs.Promises.{OnlyAt}
 use Rattle.sending.specs.Requesting.{RequestOutcome}
 use Rattle.sending.proofs.Changes.{refused-leaves-all, calls-change-own}

@@ -32,10 +32,12 @@ use Rattle.engine.specs.declared.state.State.{State}
 use Rattle.engine.specs.declared.state.Record.{Record}
 use Rattle.receiving.specs.Fifos.{keeperOf}
 use Rattle.receiving.specs.Receive.{ReceiveOutcome, slotSays, intoFifo, intoBuffer, intoNothing}
-use Rattle.receiving.specs.Releasing.{ReleaseOutcome}
-use Rattle.receiving.proofs.Outcomes.{settled, receive-cases, acknowledge-cases, release-cases}
+use Rattle.taking.specs.Releasing.{ReleaseOutcome}
+use Rattle.receiving.proofs.Outcomes.{receive-cases}
+use Rattle.words.proofs.Rulings.{settled}
+use Rattle.taking.proofs.Outcomes.{acknowledge-cases, release-cases}
 use Rattle.choosing.specs.Buffers.{inSharedFifo}
-use Rattle.choosing.specs.Reporting.{ReportOutcome, sharedSent, sentStatus, eventKeeper, eventKept}
+use Rattle.reporting.specs.Reporting.{ReportOutcome, sharedSent, sentStatus, eventKeeper, eventKept}
 use Rattle.sending.specs.Cancelling.{CancelOutcome}
 use Rattle.sending.specs.Events.{AcknowledgeOutcome}
 use Rattle.sending.specs.Requesting.{RequestOutcome}

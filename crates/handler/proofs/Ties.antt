@@ -7,8 +7,8 @@ use Rattle.engine.specs.Answers.{Says}
 use Rattle.engine.specs.Overview.{ClearOutcome}
 use Rattle.engine.specs.Starting.{StartOutcome}
 use Rattle.receiving.specs.Receive.{Fate, ReceiveOutcome}
-use Rattle.receiving.specs.Releasing.{ReleaseOutcome}
-use Rattle.choosing.specs.Reporting.{ReportOutcome}
+use Rattle.taking.specs.Releasing.{ReleaseOutcome}
+use Rattle.reporting.specs.Reporting.{ReportOutcome}
 use Rattle.sending.specs.Cancelling.{CancelOutcome}
 use Rattle.sending.specs.Events.{AcknowledgeOutcome}
 use Rattle.sending.specs.Requesting.{RequestOutcome}

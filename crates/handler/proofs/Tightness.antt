@@ -12,12 +12,12 @@ use Rattle.engine.specs.declared.refusals.Reply.{Reply}
 use Rattle.engine.specs.declared.starting.Started.{Started}
 use Rattle.engine.specs.declared.state.Record.{Record}
 use Rattle.engine.proofs.Replies.{refusalOf, refusal-back, one-reply}
-use Rattle.receiving.specs.Reading.{readOutcome}
+use Rattle.taking.specs.Reading.{readOutcome}
 use Rattle.receiving.specs.Receive.{receiveOutcome}
-use Rattle.receiving.specs.Releasing.{releaseOutcome}
+use Rattle.taking.specs.Releasing.{releaseOutcome}
 use Rattle.receiving.proofs.OneOutcome as Rx
 use Rattle.choosing.specs.Choosing.{choiceOutcome}
-use Rattle.choosing.specs.Reporting.{reportOutcome}
+use Rattle.reporting.specs.Reporting.{reportOutcome}
 use Rattle.sending.specs.Cancelling.{cancelOutcome}
 use Rattle.sending.specs.Events.{meaning as eventMeaning, acknowledgeOutcome}
 use Rattle.sending.specs.Requesting.{requestOutcome}

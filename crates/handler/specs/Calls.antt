@@ -13,7 +13,7 @@ use Rattle.engine.specs.declared.state.State.{State}
 use Rattle.engine.specs.declared.state.Record.{Record}
 use Rattle.engine.specs.declared.overview.Overview.{Overview}
 use Rattle.receiving.specs.Receive.{Fate}
-use Rattle.receiving.specs.Reading.{ReadOutcome}
+use Rattle.taking.specs.Reading.{ReadOutcome}
 use Rattle.choosing.specs.Choosing.{ChoiceOutcome}
 
 -- state and record of an engine, and the memory that it is lent

@@ -13,11 +13,12 @@ use Rattle.layout.specs.Verdict.{over, past, hasPartner}
 use Rattle.engine.specs.Answers.{wrongOutput}
 use Rattle.engine.specs.Areas.{dedicated, shared}
 use Rattle.engine.specs.Fitness.{unfit}
-use Rattle.receiving.specs.Fifos.{noPlace, placeFree, noBuffer, bufferFree}
+use Rattle.taking.specs.Places.{noPlace, placeFree, noBuffer, bufferFree}
 use Rattle.choosing.specs.Buffers
-use Rattle.choosing.specs.Buffers.{isPending, inSharedFifo, freePlace}
+use Rattle.choosing.specs.Buffers.{isPending, inSharedFifo}
+use Rattle.sending.specs.Places.{freePlace}
 use Rattle.choosing.specs.Choosing.{choice}
-use Rattle.choosing.specs.Reporting.{isChosen}
+use Rattle.reporting.specs.Reporting.{isChosen}
 use Rattle.sending.specs.Events.{noEvent, eventFree}
 use Rattle.handler.specs.Calls.{World, Call, start, receive, readFifo, acknowledgeFifo, readBuffer, releaseBuffer, requestDedicated, requestShared, cancel, askChoice, reportSent, readEvent, acknowledgeEvent, clearFlags, status}
 

@@ -4,12 +4,12 @@ use lib.ListN.{length}
 use Rattle.engine.specs.Starting.{startRule}
 use Rattle.engine.specs.Overview.{clearRule, statusRule}
 use Rattle.receiving.specs.Receive.{receiveRule}
-use Rattle.receiving.specs.Reading.{readFifoRule, readBufferRule}
-use Rattle.receiving.specs.Releasing.{acknowledgeRule, releaseRule}
+use Rattle.taking.specs.Reading.{readFifoRule, readBufferRule}
+use Rattle.taking.specs.Releasing.{acknowledgeRule, releaseRule}
 use Rattle.sending.specs.Requesting.{dedicatedRule, sharedRule}
 use Rattle.sending.specs.Cancelling.{cancelRule}
 use Rattle.choosing.specs.Choosing.{choiceRule}
-use Rattle.choosing.specs.Reporting.{reportRule}
+use Rattle.reporting.specs.Reporting.{reportRule}
 use Rattle.sending.specs.Events.{readEventRule, acknowledgeEventRule}
 use Rattle.engine.specs.declared.state.State.{State}
 use Rattle.engine.specs.declared.state.Record.{Record}

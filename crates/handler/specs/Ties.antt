@@ -11,16 +11,16 @@ use Rattle.engine.specs.Starting.{startOutcome, startRule}
 use Rattle.engine.specs.declared.overview.Cleared.{Cleared}
 use Rattle.engine.specs.declared.overview.StatusAnswer.{StatusAnswer}
 use Rattle.engine.specs.declared.starting.Started.{Started}
-use Rattle.receiving.specs.Reading.{readOutcome, readFifoRule, readBufferRule}
+use Rattle.taking.specs.Reading.{readOutcome, readFifoRule, readBufferRule}
 use Rattle.receiving.specs.Receive.{meaning as fateMeaning, receiveOutcome, receiveRule}
-use Rattle.receiving.specs.Releasing.{releaseOutcome, acknowledgeRule, releaseRule}
-use Rattle.receiving.specs.declared.reading.ReadAnswer.{ReadAnswer}
+use Rattle.taking.specs.Releasing.{releaseOutcome, acknowledgeRule, releaseRule}
+use Rattle.taking.specs.declared.reading.ReadAnswer.{ReadAnswer}
 use Rattle.receiving.specs.declared.receive.AfterReceive.{AfterReceive}
-use Rattle.receiving.specs.declared.releasing.AfterRelease.{AfterRelease}
+use Rattle.taking.specs.declared.releasing.AfterRelease.{AfterRelease}
 use Rattle.choosing.specs.Choosing.{choiceOutcome, choiceRule}
-use Rattle.choosing.specs.Reporting.{reportOutcome, reportRule}
+use Rattle.reporting.specs.Reporting.{reportOutcome, reportRule}
 use Rattle.choosing.specs.declared.asking.ChoiceAnswer.{ChoiceAnswer}
-use Rattle.choosing.specs.declared.reporting.AfterReport.{AfterReport}
+use Rattle.reporting.specs.declared.report.AfterReport.{AfterReport}
 use Rattle.sending.specs.Cancelling.{cancelOutcome, cancelRule}
 use Rattle.sending.specs.Events.{meaning as eventMeaning, readEventRule, acknowledgeOutcome, acknowledgeEventRule}
 use Rattle.sending.specs.Requesting.{meaning as requestMeaning, requestOutcome, dedicatedRule, sharedRule}

@@ -40,14 +40,14 @@ pub use receiving::receive::receive;
 // 3 and 4: read and acknowledge in FIFO 0 or 1.
 pub use element::RxHeader;
 pub use element::RxRead;
-pub use receiving::reading::ReadAnswer;
-pub use receiving::reading::read_fifo;
-pub use receiving::releasing::AfterRelease;
-pub use receiving::releasing::acknowledge_fifo;
+pub use taking::reading::ReadAnswer;
+pub use taking::reading::read_fifo;
+pub use taking::releasing::AfterRelease;
+pub use taking::releasing::acknowledge_fifo;
 
 // 5 and 6: read and release an Rx buffer.
-pub use receiving::reading::read_buffer;
-pub use receiving::releasing::release_buffer;
+pub use taking::reading::read_buffer;
+pub use taking::releasing::release_buffer;
 
 // 7 and 8: request a dedicated buffer, and the shared part.
 pub use sending::requesting::AfterRequest;
@@ -65,8 +65,8 @@ pub use choosing::asking::Chosen;
 pub use choosing::asking::ask_choice;
 
 // 11: report sent.
-pub use choosing::reporting::AfterReport;
-pub use choosing::reporting::report_sent;
+pub use reporting::report::AfterReport;
+pub use reporting::report::report_sent;
 
 // 12 and 13: read and acknowledge an event.
 pub use element::EventHeader;

@@ -18,7 +18,7 @@ use Rattle.engine.specs.declared.keeping.Keeper.{Keeper}
 use Rattle.engine.specs.declared.state.State.{State}
 use Rattle.engine.proofs.Rooms.{buffer-roomy, tx-roomy}
 use Rattle.receiving.specs.Fifos.{keeperOf}
-use Rattle.choosing.specs.Reporting.{eventKeeper}
+use Rattle.reporting.specs.Reporting.{eventKeeper}
 use Rattle.ledger.specs.Ledgers.{Ledger}
 use Rattle.ledger.specs.Balance
 use Rattle.ledger.specs.Standing.{KeptOutside, Holds, Told, elementAt}

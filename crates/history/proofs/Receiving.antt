@@ -40,12 +40,14 @@ use Rattle.engine.specs.declared.state.State.{State}
 use Rattle.engine.specs.declared.state.Record.{Record}
 use Rattle.engine.proofs.Rooms.{fifo-roomy, buffer-roomy}
 use Rattle.engine.proofs.Sounds.{sound-of}
-use Rattle.receiving.specs.Fifos.{keeperOf, noPlace, placeFree, noBuffer, bufferFree}
+use Rattle.receiving.specs.Fifos.{keeperOf}
+use Rattle.taking.specs.Places.{noPlace, placeFree, noBuffer, bufferFree}
 use Rattle.receiving.specs.Receive.{ReceiveOutcome, Fate, slotSays, intoFifo, intoBuffer, intoNothing, goesTo, receiveRule}
-use Rattle.receiving.specs.Reading.{ReadOutcome, readIn, unread, readFifoRule, readBufferRule}
-use Rattle.receiving.specs.Releasing.{ReleaseOutcome, acknowledgeRule, releaseRule}
-use Rattle.receiving.proofs.Judgements.{all-three}
-use Rattle.receiving.proofs.Outcomes.{receive-cases, acknowledge-cases, release-cases}
+use Rattle.taking.specs.Reading.{ReadOutcome, readIn, unread, readFifoRule, readBufferRule}
+use Rattle.taking.specs.Releasing.{ReleaseOutcome, acknowledgeRule, releaseRule}
+use Rattle.words.proofs.Rulings.{all-three}
+use Rattle.receiving.proofs.Outcomes.{receive-cases}
+use Rattle.taking.proofs.Outcomes.{acknowledge-cases, release-cases}
 use Rattle.receiving.proofs.Takes.{legal-lists}
 use Rattle.ledger.specs.Ledgers.{noteArrival, noteRelease, isHeldAt, entryAt}
 use Rattle.ledger.proofs.Arrivals.{arrival-slot, arrival-told, arrival-holds, arrival-kept}

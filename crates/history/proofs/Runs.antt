@@ -26,7 +26,7 @@ use Rattle.engine.specs.declared.keeping.Keeper.{Keeper}
 use Rattle.engine.proofs.Fits.{empty-is-fit}
 use Rattle.engine.proofs.Rooms.{fifo-roomy, event-roomy}
 use Rattle.receiving.specs.Fifos.{keeperOf}
-use Rattle.choosing.specs.Reporting.{eventKeeper}
+use Rattle.reporting.specs.Reporting.{eventKeeper}
 use Rattle.ledger.specs.Ledgers.{emptyLedger}
 use Rattle.ledger.proofs.Balances.{start-balanced}
 use Rattle.ledger.proofs.Holding.{start-holds, start-told}

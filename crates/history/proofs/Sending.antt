@@ -9,7 +9,7 @@ use borrow.Author.Tests.{leb-false, not-false}
 use lib.ListN.{length}
 use Rattle.words.specs.Choice.{pick}
 use Rattle.words.specs.Rules.{Ruling, allowed, refuseIf, first, settle}
-use Rattle.words.proofs.Rulings.{both-allowed, held-off}
+use Rattle.words.proofs.Rulings.{both-allowed, held-off, settled, all-three}
 use Rattle.ring.specs.Rings.{held}
 use Rattle.registers.specs.declared.Registers.{Registers}
 use Rattle.layout.specs.Legal.{Legal}
@@ -26,11 +26,9 @@ use Rattle.engine.specs.declared.state.State.{State}
 use Rattle.engine.specs.declared.state.Record.{Record}
 use Rattle.engine.proofs.Rooms.{event-roomy, tx-roomy}
 use Rattle.engine.proofs.Sounds.{sound-of}
-use Rattle.choosing.specs.Reporting.{ReportOutcome, sentState, sentStatus, eventKeeper, reportRule}
+use Rattle.reporting.specs.Reporting.{ReportOutcome, sentState, sentStatus, eventKeeper, reportRule}
 use Rattle.sending.specs.Events.{noEvent, eventFree, readEventRule, AcknowledgeOutcome, acknowledgeEventRule, releasedEvents}
 use Rattle.sending.proofs.Changes.{refused-leaves-all}
-use Rattle.receiving.proofs.Outcomes.{settled}
-use Rattle.receiving.proofs.Judgements.{all-three}
 use Rattle.ledger.specs.Ledgers.{noteArrival, noteRelease, expectSlot, entryAt}
 use Rattle.ledger.specs.Standing.{KeptOutside}
 use Rattle.ledger.proofs.Arrivals.{arrival-slot, arrival-told, arrival-holds}

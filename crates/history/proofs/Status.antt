@@ -27,7 +27,7 @@ use Rattle.engine.specs.declared.state.Record.{Record}
 use Rattle.engine.proofs.Fits.{pending-counted}
 use Rattle.engine.proofs.Sounds.{sound-of}
 use Rattle.receiving.specs.Fifos.{keeperOf}
-use Rattle.choosing.specs.Reporting.{eventKeeper}
+use Rattle.reporting.specs.Reporting.{eventKeeper}
 use Rattle.ledger.specs.Ledgers.{Ledger}
 use Rattle.ledger.proofs.Seen.{oldest-in-turn, seen-fill, seen-oldest}
 use Rattle.requests.specs.Lists.{tally, All}

@@ -14,7 +14,7 @@ use Rattle.engine.specs.Areas.{fifoArea, bufferArea, dataWords}
 use Rattle.engine.specs.declared.keeping.Slot.the-variants.{At, Lost}
 use Rattle.receiving.specs.Fifos.{keeperOf}
 use Rattle.receiving.specs.Receive.{Fate, stored, storedBuffer, lostTo, dropped}
-use Rattle.choosing.specs.Reporting.{eventKeeper}
+use Rattle.reporting.specs.Reporting.{eventKeeper}
 use Rattle.ledger.specs.Ledgers.{Ledger, emptyLedger, noteArrival, noteRelease, expectSlot}
 use Rattle.requests.specs.Requests
 use Rattle.requests.specs.Requests.{Request, bookRequest, bookCancel, noteSent, pendingIn}

@@ -20,7 +20,7 @@ use Rattle.engine.specs.States.{fifoRing}
 use Rattle.engine.specs.declared.areas.Area.{Area}
 use Rattle.engine.specs.declared.keeping.Keeper.{Keeper}
 use Rattle.receiving.specs.Fifos.{keeperOf}
-use Rattle.choosing.specs.Reporting.{eventKeeper}
+use Rattle.reporting.specs.Reporting.{eventKeeper}
 use Rattle.ledger.specs.Lists.{Each}
 use Rattle.ledger.specs.Ledgers.{Ledger}
 use Rattle.ledger.specs.Balance

@@ -26,8 +26,8 @@ use Rattle.engine.specs.declared.overview.RingStatus.{RingStatus}
 use Rattle.engine.specs.declared.overview.Overview.{Overview}
 use Rattle.receiving.specs.Fifos.{keeperOf}
 use Rattle.receiving.specs.Receive.{Fate, storedBuffer, dropped, slotSays}
-use Rattle.receiving.specs.Reading.{ReadOutcome, unread}
-use Rattle.choosing.specs.Reporting.{eventKeeper}
+use Rattle.taking.specs.Reading.{ReadOutcome, unread}
+use Rattle.reporting.specs.Reporting.{eventKeeper}
 use Rattle.ledger.specs.Ledgers.{Ledger, entryAt, isHeldAt, expectPut, expectOldest, expectSlot}
 use Rattle.requests.specs.Lists.{tally}
 use Rattle.requests.specs.Balance.{isShared}

@@ -1,5 +1,4 @@
 pub mod Judgements
-pub mod Calls
 pub mod Notes
 pub mod Stores
 pub mod Takes

@@ -34,14 +34,13 @@ use Rattle.engine.specs.declared.keeping.Slot.{Slot}
 use Rattle.engine.specs.declared.keeping.Slot.the-variants.{At, Lost}
 use Rattle.engine.specs.declared.state.State.{State}
 use Rattle.engine.specs.declared.state.Record.{Record}
+use Rattle.engine.proofs.Keeps.{kept-within}
 use Rattle.engine.proofs.Rooms.{place-room, fifo-roomy, buffer-roomy}
-use Rattle.engine.proofs.Sounds.{sound-of}
+use Rattle.engine.proofs.Sounds.{sound-of, ring-fits}
 use Rattle.receiving.specs.Fifos.{keeperOf}
 use Rattle.receiving.specs.Promises.{InElement, OneElement, ReceiveWritesOneElement}
 use Rattle.receiving.specs.Receive.{slotSays, intoFifo, intoBuffer, intoNothing}
-use Rattle.receiving.proofs.Judgements.{ring-fits}
 use Rattle.receiving.proofs.Outcomes.{Passed, receive-cases}
-use Rattle.receiving.proofs.Stores.{kept-within}
 
 -- ---- an element at a place
 

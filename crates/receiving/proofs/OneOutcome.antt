@@ -15,15 +15,15 @@ use Rattle.engine.specs.declared.state.State.{State}
 use Rattle.engine.specs.declared.state.Record.{Record}
 use Rattle.engine.proofs.Replies.{refusalOf, refusal-back, one-reply}
 use Rattle.receiving.specs.Promises.{OneOutcome}
-use Rattle.receiving.specs.Reading as R
-use Rattle.receiving.specs.Reading.{ReadOutcome}
+use Rattle.taking.specs.Reading as R
+use Rattle.taking.specs.Reading.{ReadOutcome}
 use Rattle.receiving.specs.Receive.{Fate, stored, storedBuffer, lostTo, dropped, ReceiveOutcome, meaning}
-use Rattle.receiving.specs.Releasing.{ReleaseOutcome}
+use Rattle.taking.specs.Releasing.{ReleaseOutcome}
 use Rattle.receiving.specs.declared.receive.AfterReceive.{AfterReceive}
 use Rattle.receiving.specs.declared.receive.Received
 use Rattle.receiving.specs.declared.receive.Received.{Received}
-use Rattle.receiving.specs.declared.reading.ReadAnswer
-use Rattle.receiving.specs.declared.reading.ReadAnswer.{ReadAnswer}
+use Rattle.taking.specs.declared.reading.ReadAnswer
+use Rattle.taking.specs.declared.reading.ReadAnswer.{ReadAnswer}
 use Rattle.filter.specs.declared.Reason.the-variants.{Remote}
 
 -- ---- what became of a frame

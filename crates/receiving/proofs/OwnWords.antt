@@ -43,12 +43,14 @@ use Rattle.engine.specs.declared.state.State.{State}
 use Rattle.engine.specs.declared.state.Record.{Record}
 use Rattle.engine.proofs.Rooms.{fifo-roomy, buffer-roomy}
 use Rattle.engine.proofs.Sounds.{sound-of}
-use Rattle.receiving.specs.Fifos.{keeperOf, noPlace, placeFree, noBuffer, bufferFree}
+use Rattle.receiving.specs.Fifos.{keeperOf}
+use Rattle.taking.specs.Places.{noPlace, placeFree, noBuffer, bufferFree}
 use Rattle.receiving.specs.Promises.{SameOwn, SameReceived, SameElement, ReadsOwnWords}
-use Rattle.receiving.specs.Reading.{readIn, unread, readFifoRule, readBufferRule}
+use Rattle.taking.specs.Reading.{readIn, unread, readFifoRule, readBufferRule}
 use Rattle.receiving.specs.Receive.{ReceiveOutcome, intoFifo, intoBuffer, intoNothing, goesTo, receiveRule}
 use Rattle.receiving.proofs.OneElement.{element-inside, slot-within}
-use Rattle.receiving.proofs.Outcomes.{Passed, passed, read-passed}
+use Rattle.receiving.proofs.Outcomes.{Passed, passed}
+use Rattle.taking.proofs.Outcomes.{read-passed}
 use Rattle.receiving.proofs.Takes.{legal-lists}
 
 -- ---- a store in two memories that are alike

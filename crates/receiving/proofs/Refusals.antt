@@ -8,10 +8,11 @@ use Rattle.engine.specs.Answers.{refuses, answers}
 use Rattle.engine.specs.declared.state.State.{State}
 use Rattle.engine.specs.declared.state.Record.{Record}
 use Rattle.receiving.specs.Promises.{Unchanged, RefusalsChangeNothing}
-use Rattle.receiving.specs.Reading.{ReadOutcome}
+use Rattle.taking.specs.Reading.{ReadOutcome}
 use Rattle.receiving.specs.Receive.{ReceiveOutcome, intoFifo, intoBuffer, intoNothing}
-use Rattle.receiving.specs.Releasing.{ReleaseOutcome}
-use Rattle.receiving.proofs.Outcomes.{receive-cases, acknowledge-cases, release-cases, read-fifo-cases, read-buffer-cases}
+use Rattle.taking.specs.Releasing.{ReleaseOutcome}
+use Rattle.receiving.proofs.Outcomes.{receive-cases}
+use Rattle.taking.proofs.Outcomes.{acknowledge-cases, release-cases, read-fifo-cases, read-buffer-cases}
 
 -- an answer is no refusal
 pub no-refusal : {A B : Type 0} (a : A) (n : ℕ) → answers a ≡ refuses n → B

@@ -28,15 +28,15 @@ use Rattle.engine.specs.declared.keeping.Keeper.{Keeper}
 use Rattle.engine.specs.declared.keeping.Kept.{Kept}
 use Rattle.engine.specs.declared.state.State.{State}
 use Rattle.engine.specs.declared.state.Record.{Record}
-use Rattle.engine.proofs.Sounds.{sound-of, flags-of, fit-of}
+use Rattle.engine.proofs.Keeps.{keep-cases}
+use Rattle.engine.proofs.Sounds.{sound-of, flags-of, fit-of, ring-fits}
 use Rattle.receiving.specs.Fifos.{keeperOf}
 use Rattle.receiving.specs.Promises.{FitStaysFit}
 use Rattle.receiving.specs.Receive.{ReceiveOutcome, prioritised, intoFifo, intoBuffer, intoNothing, receiveRule}
-use Rattle.receiving.specs.Releasing.{ReleaseOutcome, acknowledgeRule, releaseRule}
-use Rattle.receiving.proofs.Judgements.{ring-fits}
+use Rattle.taking.specs.Releasing.{ReleaseOutcome, acknowledgeRule, releaseRule}
 use Rattle.receiving.proofs.OneElement.{receive-writes-one-element}
-use Rattle.receiving.proofs.Stores.{keep-cases}
-use Rattle.receiving.proofs.Outcomes.{Passed, receive-cases, acknowledge-cases, release-cases}
+use Rattle.receiving.proofs.Outcomes.{Passed, receive-cases}
+use Rattle.taking.proofs.Outcomes.{acknowledge-cases, release-cases}
 
 -- ---- the flags
 

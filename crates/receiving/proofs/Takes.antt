@@ -28,6 +28,7 @@ use Rattle.filter.proofs.Bounds.{fifo-number, fifo-index, buffer-number, buffer
 use Rattle.filter.proofs.Turns.{lists-fit}
 use Rattle.engine.specs.Answers.{Says, answers, ruled}
 use Rattle.engine.specs.Areas.{fifoSize, fifoArea, bufferArea, placeIn, dataWords}
+use Rattle.engine.specs.Fitness.{fitThen}
 use Rattle.engine.specs.Flags.{raised}
 use Rattle.engine.specs.Keeping.{keepRule, slotMemory}
 use Rattle.engine.specs.States.{fifoRing, withFifo, withNewData}
@@ -38,9 +39,11 @@ use Rattle.engine.specs.declared.keeping.Slot.the-variants.{At, Lost}
 use Rattle.engine.specs.declared.refusals.Refusal.{Refusal}
 use Rattle.engine.specs.declared.state.State.{State}
 use Rattle.engine.specs.declared.state.Record.{Record}
+use Rattle.engine.proofs.Keeps.{kept-within}
+use Rattle.engine.proofs.Sounds.{ring-fits}
 use Rattle.engine.proofs.Rooms.{fifo-roomy, buffer-roomy}
 use Rattle.receiving.specs.Fifos.{keeperOf}
-use Rattle.receiving.specs.Judging.{frameRuling}
+use Rattle.receiving.specs.Judging.{formRuling}
 use Rattle.receiving.specs.Noting.{SlotNotable, DropNotable}
 use Rattle.receiving.specs.Receive.{Fate, ReceiveOutcome, meaning as says-of, slotAnswer, slotSays, slotPlace, slotNoted, keptNoted, dropNoted, receiveOutcome, receiveRule, intoFifo, intoBuffer, intoNothing, goesTo}
 use Rattle.receiving.specs.Storing.{CanStore, CanPut, Ready, ReadyRing, ReadyFifo, ReadyBuffer}
@@ -49,8 +52,7 @@ use Rattle.engine.specs.declared.refusals.Judged.the-variants.{Allowed, Refused
 use Rattle.receiving.specs.declared.receive.AfterReceive.{AfterReceive}
 use Rattle.receiving.specs.declared.receive.Received
 use Rattle.receiving.specs.declared.receive.Received.{Received}
-use Rattle.receiving.proofs.Judgements.{ring-fits, frame-sound, frame-in-fields}
-use Rattle.receiving.proofs.Stores.{kept-within}
+use Rattle.receiving.proofs.Judgements.{frame-sound, frame-in-fields}
 
 -- ---- the filter lists of a legal layout lie in the memory
 
@@ -203,15 +205,15 @@ module _ (s : State) (status : Record) (mem : List ℕ) (f : Frame) (d : List �
 
 -- ---- the call
 
-module _ (s : State) (r : Record) (mem : List ℕ) (f : Frame) (d : List ℕ) (time : ℕ) (j : Judged) (e : ruled j ≡ frameRuling s r (length mem) f (length d)) where
+module _ (s : State) (r : Record) (mem : List ℕ) (f : Frame) (d : List ℕ) (time : ℕ) (j : Judged) (e : ruled j ≡ fitThen s r (length mem) (formRuling f (length d) (s .regs .fdon))) where
   pub receive-ready : j ≡ Allowed → Ready s f (length mem)
   receive-ready y = record { sound = frame-sound s r (length mem) j y f (length d) e; fields = frame-in-fields s r (length mem) j y f (length d) e }
 
   pub receive-refused : (n : Refusal) → j ≡ Refused n → receiveOutcome (record { answer = Received.the-variants.Refused n; state = s; status = r }) mem ≡ receiveRule s r mem f d time
-  unfolding receiveRule frameRuling
+  unfolding receiveRule formRuling
   receive-refused n y = simp (← e, y)
 
   pub received : (a : AfterReceive) (last : List ℕ) → j ≡ Allowed → receiveOutcome a last ≡ goesTo s r mem f d time (destination (s .regs) mem f (s .newdata))
       → receiveOutcome a last ≡ receiveRule s r mem f d time
-  unfolding receiveRule frameRuling
+  unfolding receiveRule formRuling
   received a last y q = q ∙ sym (simp (← e, y))

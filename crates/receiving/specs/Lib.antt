@@ -3,6 +3,4 @@ pub mod Judging
 pub mod Receive
 pub mod Noting
 pub mod Storing
-pub mod Reading
-pub mod Releasing
 pub mod Promises

@@ -14,11 +14,11 @@ use Rattle.engine.specs.declared.areas.Area.{Area}
 use Rattle.engine.specs.declared.state.State.{State}
 use Rattle.engine.specs.declared.state.Record.{Record}
 use Rattle.receiving.specs.Receive.{Fate, stored, storedBuffer, lostTo, dropped, ReceiveOutcome, receiveOutcome, receiveRule}
-use Rattle.receiving.specs.Reading.{readOutcome, readFifoRule, readBufferRule}
-use Rattle.receiving.specs.Releasing.{releaseOutcome, acknowledgeRule, releaseRule}
+use Rattle.taking.specs.Reading.{readOutcome, readFifoRule, readBufferRule}
+use Rattle.taking.specs.Releasing.{releaseOutcome, acknowledgeRule, releaseRule}
 use Rattle.receiving.specs.declared.receive.AfterReceive.{AfterReceive}
-use Rattle.receiving.specs.declared.reading.ReadAnswer.{ReadAnswer}
-use Rattle.receiving.specs.declared.releasing.AfterRelease.{AfterRelease}
+use Rattle.taking.specs.declared.reading.ReadAnswer.{ReadAnswer}
+use Rattle.taking.specs.declared.releasing.AfterRelease.{AfterRelease}
 
 -- ---- fit stays fit
 

@@ -1,7 +1,5 @@
-// Calls 2 to 6: receive, read and acknowledge in a FIFO, read and release an Rx buffer.
+// Call 2, receive; and what is promised of calls 2 to 6.
 mod judging;
 mod noting;
-pub mod reading;
 pub mod receive;
-pub mod releasing;
 mod storing;

@@ -20,7 +20,7 @@ use Rattle.element.proofs.RoundTrip.{tx-back}
 use Rattle.engine.specs.Areas.{dedicated, shared, txCount, isQueue, txArea, dataWords, placeIn, Roomy}
 use Rattle.engine.specs.States.{withTx}
 use Rattle.engine.specs.declared.state.State.{State}
-use Rattle.choosing.specs.Buffers.{requested}
+use Rattle.sending.specs.Places.{requested}
 use Rattle.requests.specs.Lists.{tally, those, others, All}
 use Rattle.requests.specs.Requests.{Request, Typed, Entry, Book, emptyBook, isBuffer, entryFor, noteRequest, hasPending, noEntry, pendingIn}
 use Rattle.requests.specs.Balance.{isShared}

@@ -37,7 +37,7 @@ use Rattle.engine.proofs.Rooms.{event-roomy}
 use Rattle.choosing.specs.Buffers.{noBuffer, inSharedFifo, headerOf}
 use Rattle.choosing.specs.Choosing
 use Rattle.choosing.specs.Choosing.{choice}
-use Rattle.choosing.specs.Reporting.{ReportOutcome, isChosen, sentState, sentStatus, eventKeeper, reported, reportRule}
+use Rattle.reporting.specs.Reporting.{ReportOutcome, isChosen, sentState, sentStatus, eventKeeper, reported, reportRule}
 use Rattle.requests.specs.Requests.{Request, Book, isBuffer, noteSent, bookReport, pendingIn}
 use Rattle.requests.specs.Balance.{isShared}
 use Rattle.requests.specs.Expected.{isCandidate, bestOf, expectReport, eventFor, nextOf, expectChoice}

@@ -29,7 +29,8 @@ use Rattle.engine.specs.Flags.{raised}
 use Rattle.engine.specs.States.{withTx}
 use Rattle.engine.specs.declared.state.State.{State}
 use Rattle.engine.specs.declared.state.Record.{Record}
-use Rattle.choosing.specs.Buffers.{requested, isPending, freePlace, sharedAfter, inSharedFifo, noBuffer}
+use Rattle.choosing.specs.Buffers.{isPending, inSharedFifo, noBuffer}
+use Rattle.sending.specs.Places.{requested, freePlace, sharedAfter}
 use Rattle.sending.specs.Requesting.{RequestOutcome, requestIn, notRequested, dedicatedRule, sharedRule}
 use Rattle.sending.specs.Cancelling.{CancelOutcome, cancelRule}
 use Rattle.requests.specs.Lists.{tally}

@@ -19,7 +19,7 @@ use Rattle.element.specs.Elements.{eventElement}
 use Rattle.engine.specs.Answers.{Says, refuses, answers, done, wrongOutput}
 use Rattle.engine.specs.Areas.{dedicated, shared, txCount, isQueue, txArea, dataWords}
 use Rattle.choosing.specs.Choosing.{none, send, ChoiceOutcome}
-use Rattle.choosing.specs.Reporting.{isChosen}
+use Rattle.reporting.specs.Reporting.{isChosen}
 use Rattle.requests.specs.Lists.{tally, those}
 use Rattle.requests.specs.Requests.{Request, Entry, Book, hasPending, noEntry, pendingIn}
 use Rattle.requests.specs.Balance.{isShared}

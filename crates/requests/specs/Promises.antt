@@ -18,7 +18,7 @@ use Rattle.engine.specs.declared.state.Record.{Record}
 use Rattle.sending.specs.Requesting.{RequestOutcome, dedicatedRule, sharedRule}
 use Rattle.sending.specs.Cancelling.{cancelRule}
 use Rattle.choosing.specs.Choosing.{choiceRule}
-use Rattle.choosing.specs.Reporting.{ReportOutcome, sentState, sentStatus, eventKeeper, reportRule}
+use Rattle.reporting.specs.Reporting.{ReportOutcome, sentState, sentStatus, eventKeeper, reportRule}
 use Rattle.requests.specs.Requests.{Request, Typed, Book, emptyBook, bookRequest, bookCancel, bookReport, pendingIn}
 use Rattle.requests.specs.Balance.{Balanced, EachOnce}
 use Rattle.requests.specs.Expected.{expectDedicated, expectShared, expectCancel, bestOf, nextOf, expectChoice, expectReport, eventFor}

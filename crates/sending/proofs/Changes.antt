@@ -23,14 +23,15 @@ use Rattle.engine.specs.declared.keeping.Slot.the-variants.{At, Lost}
 use Rattle.engine.specs.declared.state.State.{State}
 use Rattle.engine.specs.declared.state.Record.{Record}
 use Rattle.engine.proofs.Rooms.{place-room, tx-roomy, event-roomy}
-use Rattle.choosing.specs.Buffers.{freePlace, sharedAfter, headerOf}
+use Rattle.choosing.specs.Buffers.{headerOf}
+use Rattle.sending.specs.Places.{freePlace, sharedAfter}
 use Rattle.sending.specs.Cancelling.{CancelOutcome}
 use Rattle.choosing.specs.Choosing.{ChoiceOutcome, chosen, choice, sentFrame}
 use Rattle.sending.specs.Events.{AcknowledgeOutcome}
-use Rattle.choosing.specs.Reporting.{ReportOutcome, sentStatus, eventKeeper, reported, eventKept, SlotIn}
+use Rattle.reporting.specs.Reporting.{ReportOutcome, sentStatus, eventKeeper, reported, eventKept, SlotIn}
 use Rattle.sending.specs.Requesting.{RequestOutcome, requestIn, Requestable}
 use Rattle.sending.specs.Promises.{OnlyAt, OneElement, CallsChangeOwn, RefusedLeavesAll}
-use Rattle.choosing.proofs.Reports.{kept-in}
+use Rattle.reporting.proofs.Reports.{kept-in}
 use Rattle.sending.proofs.Ways.{dedicated-ways, shared-ways, cancel-ways, choice-ways, report-ways, sent-ways, acknowledge-ways}
 
 -- an answer is no refusal

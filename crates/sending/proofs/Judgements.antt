@@ -13,15 +13,14 @@ use Rattle.frame.specs.Malformed.{malformed}
 use Rattle.frame.specs.declared.Frame.{Frame}
 use Rattle.engine.specs.Answers.{ruled}
 use Rattle.engine.specs.Areas.{eventSize, dedicated, shared, txCount, isQueue}
-use Rattle.engine.specs.Fitness.{unfit}
+use Rattle.engine.specs.Fitness.{unfit, fitThen}
 use Rattle.engine.specs.declared.refusals.Judged.{Judged}
 use Rattle.engine.specs.declared.refusals.Judged.the-variants.{Allowed, Refused}
 use Rattle.engine.specs.declared.refusals.Refusal.the-variants.{Malformed, NoSuch, AlreadyPending, InSharedFifo, NotPending, NotHeld}
 use Rattle.engine.specs.declared.state.State.{State}
 use Rattle.engine.specs.declared.state.Record.{Record}
 use Rattle.engine.proofs.Sounds.{sound-of}
-use Rattle.choosing.specs.Judging.{fitThen}
-use Rattle.choosing.proofs.Judgements.{fit-rest}
+use Rattle.engine.proofs.Judgements.{fit-rest}
 use Rattle.sending.specs.Judging.{freeRuling, formRuling, pendingRuling, heldRuling}
 
 -- ---- after 20

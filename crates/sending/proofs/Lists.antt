@@ -27,10 +27,11 @@ use Rattle.engine.specs.declared.state.Record.{Record}
 use Rattle.engine.proofs.Rooms.{event-roomy}
 use Rattle.sending.specs.Cancelling.{cancelOutcome, cancelRule, cancelledState}
 use Rattle.sending.specs.Events.{meaning, readEventRule, acknowledgeOutcome, acknowledgeEventRule, releasedEvents, EventHeld}
-use Rattle.choosing.specs.Judging.{fitThen}
+use Rattle.engine.specs.Fitness.{fitThen}
 use Rattle.sending.specs.Judging.{pendingRuling, heldRuling}
 use Rattle.sending.specs.declared.events.EventAnswer
-use Rattle.choosing.proofs.Judgements.{allowed-sound, rest-allowed, all-three, all-two}
+use Rattle.engine.proofs.Judgements.{allowed-sound, rest-allowed}
+use Rattle.words.proofs.Rulings.{all-three, all-two}
 
 -- ---- call 9
 

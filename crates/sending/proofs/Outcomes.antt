@@ -14,7 +14,7 @@ use Rattle.engine.specs.declared.refusals.Reply.{Reply}
 use Rattle.sending.specs.Cancelling.{CancelOutcome, cancelOutcome}
 use Rattle.choosing.specs.Choosing.{Next, none, send, meaning as choiceMeaning, ChoiceOutcome}
 use Rattle.sending.specs.Events.{meaning as eventMeaning, AcknowledgeOutcome, acknowledgeOutcome}
-use Rattle.choosing.specs.Reporting.{ReportOutcome, reportOutcome}
+use Rattle.reporting.specs.Reporting.{ReportOutcome, reportOutcome}
 use Rattle.sending.specs.Requesting.{meaning as requestMeaning, RequestOutcome, requestOutcome}
 use Rattle.sending.specs.Promises.{OneOutcome}
 use Rattle.sending.specs.declared.cancelling.AfterCancel.{AfterCancel}
@@ -23,7 +23,7 @@ use Rattle.choosing.specs.declared.asking.ChoiceAnswer.{ChoiceAnswer}
 use Rattle.sending.specs.declared.events.EventAnswer
 use Rattle.sending.specs.declared.events.EventAnswer.{EventAnswer}
 use Rattle.sending.specs.declared.events.AfterAcknowledge.{AfterAcknowledge}
-use Rattle.choosing.specs.declared.reporting.AfterReport.{AfterReport}
+use Rattle.reporting.specs.declared.report.AfterReport.{AfterReport}
 use Rattle.sending.specs.declared.requesting.Requested
 use Rattle.sending.specs.declared.requesting.Requested.{Requested}
 use Rattle.sending.specs.declared.requesting.AfterRequest.{AfterRequest}

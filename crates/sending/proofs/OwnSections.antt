@@ -43,10 +43,11 @@ use Rattle.engine.specs.declared.keeping.Slot.the-variants.{At, Lost}
 use Rattle.engine.specs.declared.state.State.{State}
 use Rattle.engine.specs.declared.state.Record.{Record}
 use Rattle.engine.proofs.Rooms.{place-room, tx-roomy, event-roomy}
-use Rattle.choosing.specs.Buffers.{freePlace, sharedAfter, headerOf}
+use Rattle.choosing.specs.Buffers.{headerOf}
+use Rattle.sending.specs.Places.{freePlace, sharedAfter}
 use Rattle.choosing.specs.Choosing.{isCandidate, rankAt, choice, sentFrame, send, ChoiceOutcome, chosen, choiceRule}
-use Rattle.choosing.specs.Reporting.{ReportOutcome, sentState, sentStatus, eventKeeper, reported, reportRule, SlotIn}
-use Rattle.choosing.proofs.Reports.{kept-in}
+use Rattle.reporting.specs.Reporting.{ReportOutcome, sentState, sentStatus, eventKeeper, reported, reportRule, SlotIn}
+use Rattle.reporting.proofs.Reports.{kept-in}
 use Rattle.sending.specs.Cancelling.{cancelRule}
 use Rattle.sending.specs.Events.{readEventRule, acknowledgeEventRule}
 use Rattle.sending.specs.Requesting.{RequestOutcome, requestIn, notRequested, dedicatedRule, sharedRule, Requestable}

@@ -19,7 +19,7 @@ use Rattle.engine.specs.Areas.{dedicated, shared, isQueue}
 use Rattle.engine.specs.Fitness.{Sound}
 use Rattle.engine.specs.declared.state.State.{State}
 use Rattle.engine.proofs.Cases.{fifo-ring}
-use Rattle.choosing.specs.Buffers.{queuePlace, freePlace, QueueFits}
+use Rattle.sending.specs.Places.{queuePlace, freePlace, QueueFits}
 
 -- whether a bit above the first d is clear
 abbrev clearFrom : ℕ → ℕ → ℕ → Bool

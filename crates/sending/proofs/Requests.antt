@@ -20,7 +20,7 @@ use Rattle.element.specs.Elements.{txElement}
 use Rattle.element.proofs.Fitness.{frame-fits}
 use Rattle.engine.specs.Answers.{ruled}
 use Rattle.engine.specs.Areas.{dedicated, shared, isQueue, txArea, dataWords, placeIn, HasPlace}
-use Rattle.engine.specs.Fitness.{unfit, Sound}
+use Rattle.engine.specs.Fitness.{unfit, Sound, fitThen}
 use Rattle.engine.specs.declared.areas.Area.{Area}
 use Rattle.engine.specs.declared.refusals.Judged
 use Rattle.engine.specs.declared.refusals.Judged.{Judged}
@@ -30,13 +30,13 @@ use Rattle.engine.specs.declared.state.State.{State}
 use Rattle.engine.specs.declared.state.Record.{Record}
 use Rattle.engine.proofs.Cases.{shared-most}
 use Rattle.engine.proofs.Rooms.{tx-roomy}
-use Rattle.choosing.specs.Buffers.{requested, freePlace, sharedAfter}
-use Rattle.choosing.specs.Judging.{fitThen}
+use Rattle.sending.specs.Places.{requested, freePlace, sharedAfter}
 use Rattle.sending.specs.Judging.{freeRuling, formRuling}
 use Rattle.sending.specs.Requesting.{requestOutcome, requestIn, notRequested, requestFree, dedicatedRule, sharedRule, Requestable, Writable}
 use Rattle.sending.specs.declared.requesting.Requested.the-variants.{Buffer, Refused}
 use Rattle.sending.specs.declared.requesting.AfterRequest.{AfterRequest}
-use Rattle.choosing.proofs.Judgements.{allowed-sound, rest-allowed, all-three, one-rule, stops, two-refuse, two-allow}
+use Rattle.engine.proofs.Judgements.{allowed-sound, rest-allowed}
+use Rattle.words.proofs.Rulings.{all-three, one-rule, stops, two-refuse, two-allow}
 
 -- ---- in a buffer
 

@@ -27,11 +27,12 @@ use Rattle.engine.specs.declared.keeping.Slot.the-variants.{At}
 use Rattle.engine.specs.declared.state.State.{State}
 use Rattle.engine.specs.declared.state.Record.{Record}
 use Rattle.engine.proofs.Cases.{queue-ring, fifo-ring, shared-most}
-use Rattle.choosing.specs.Buffers.{isPending, inSharedFifo, requested, freePlace, sharedAfter}
+use Rattle.choosing.specs.Buffers.{isPending, inSharedFifo}
+use Rattle.sending.specs.Places.{requested, freePlace, sharedAfter}
 use Rattle.sending.specs.Cancelling.{cancelledState}
 use Rattle.choosing.specs.Choosing.{isCandidate}
 use Rattle.choosing.specs.Promises.{Candidate, dedicatedOne, oldestOne, queueOne}
-use Rattle.choosing.specs.Reporting.{sharedSent, sentState, sentStatus, eventKeeper}
+use Rattle.reporting.specs.Reporting.{sharedSent, sentState, sentStatus, eventKeeper}
 use Rattle.choosing.proofs.Candidates.{candidates-are-those}
 
 -- ---- bits

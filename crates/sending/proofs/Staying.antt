@@ -19,11 +19,11 @@ use Rattle.engine.specs.declared.areas.Area.{Area}
 use Rattle.engine.specs.declared.state.State.{State}
 use Rattle.engine.specs.declared.state.Record.{Record}
 use Rattle.engine.proofs.Sounds.{sound-of, flags-of, fit-of}
-use Rattle.choosing.specs.Buffers.{requested, freePlace, sharedAfter}
+use Rattle.sending.specs.Places.{requested, freePlace, sharedAfter}
 use Rattle.sending.specs.Cancelling.{CancelOutcome}
 use Rattle.choosing.specs.Choosing.{choice}
 use Rattle.sending.specs.Events.{AcknowledgeOutcome}
-use Rattle.choosing.specs.Reporting.{ReportOutcome, sentState, sentStatus, eventKeeper, reported, eventKept}
+use Rattle.reporting.specs.Reporting.{ReportOutcome, sentState, sentStatus, eventKeeper, reported, eventKept}
 use Rattle.sending.specs.Requesting.{RequestOutcome, requestIn, Requestable}
 use Rattle.sending.specs.Promises.{OneElement, IsFit, PendingAreHeld, FitStaysFit}
 use Rattle.choosing.proofs.Candidates.{choice-is-best, candidates-are-those, candidates-wait}

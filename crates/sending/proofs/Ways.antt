@@ -11,7 +11,7 @@ use lib.ListN.{length}
 use Rattle.words.specs.Best.{Best, nobody, somebody}
 use Rattle.words.specs.Choice.{pick}
 use Rattle.words.specs.Rules.{Ruling, allowed, refused, refuseIf, first, settle}
-use Rattle.words.proofs.Rulings.{both-allowed, held-off}
+use Rattle.words.proofs.Rulings.{both-allowed, held-off, all-two, all-three}
 use Rattle.frame.specs.Malformed.{malformed}
 use Rattle.frame.specs.declared.Frame.{Frame}
 use Rattle.element.proofs.Fitness.{frame-fits}
@@ -23,13 +23,13 @@ use Rattle.engine.specs.declared.state.State.{State}
 use Rattle.engine.specs.declared.state.Record.{Record}
 use Rattle.engine.proofs.Sounds.{sound-of}
 use Rattle.ring.specs.Rings.{held}
-use Rattle.choosing.specs.Buffers.{isPending, noBuffer, inSharedFifo, freePlace, sharedAfter, headerOf}
+use Rattle.choosing.specs.Buffers.{isPending, noBuffer, inSharedFifo, headerOf}
+use Rattle.sending.specs.Places.{freePlace, sharedAfter}
 use Rattle.sending.specs.Cancelling.{CancelOutcome, cancelRule, cancelledState}
 use Rattle.choosing.specs.Choosing.{ChoiceOutcome, choice, sentFrame, chosen, choiceRule}
 use Rattle.sending.specs.Events.{AcknowledgeOutcome, noEvent, eventFree, acknowledgeEventRule, releasedEvents, EventHeld}
-use Rattle.choosing.specs.Reporting.{ReportOutcome, isChosen, sentState, sentStatus, reported, reportRule, eventKept}
+use Rattle.reporting.specs.Reporting.{ReportOutcome, isChosen, sentState, sentStatus, reported, reportRule, eventKept}
 use Rattle.sending.specs.Requesting.{RequestOutcome, requestIn, notRequested, dedicatedRule, sharedRule, Requestable}
-use Rattle.choosing.proofs.Judgements.{all-two, all-three}
 
 -- two ways of a ruling
 ways : (rule : Ruling ℕ) (Q : Ruling ℕ → Type 0) → ((n : ℕ) → Q (refused n)) → (rule ≡ allowed → Q allowed) → Q rule

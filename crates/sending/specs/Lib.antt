@@ -1,3 +1,4 @@
+pub mod Places
 pub mod Judging
 pub mod Requesting
 pub mod Cancelling

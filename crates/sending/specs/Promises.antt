@@ -18,13 +18,13 @@ use Rattle.choosing.specs.Buffers.{isPending}
 use Rattle.sending.specs.Cancelling.{cancelOutcome, cancelRule}
 use Rattle.choosing.specs.Choosing.{choice, choiceOutcome, choiceRule}
 use Rattle.sending.specs.Events.{meaning as eventMeaning, readEventRule, acknowledgeOutcome, acknowledgeEventRule}
-use Rattle.choosing.specs.Reporting.{reportOutcome, reportRule}
+use Rattle.reporting.specs.Reporting.{reportOutcome, reportRule}
 use Rattle.sending.specs.Requesting.{requestOutcome, dedicatedRule, sharedRule}
 use Rattle.sending.specs.declared.cancelling.AfterCancel.{AfterCancel}
 use Rattle.choosing.specs.declared.asking.ChoiceAnswer.{ChoiceAnswer}
 use Rattle.sending.specs.declared.events.EventAnswer.{EventAnswer}
 use Rattle.sending.specs.declared.events.AfterAcknowledge.{AfterAcknowledge}
-use Rattle.choosing.specs.declared.reporting.AfterReport.{AfterReport}
+use Rattle.reporting.specs.declared.report.AfterReport.{AfterReport}
 use Rattle.sending.specs.declared.requesting.AfterRequest.{AfterRequest}
 
 -- ---- fit stays fit

@@ -16,7 +16,8 @@ use Rattle.engine.specs.Areas.{dedicated, shared, txCount, txArea, dataWords, p
 use Rattle.engine.specs.Fitness.{unfit, Sound}
 use Rattle.engine.specs.declared.state.State.{State}
 use Rattle.engine.specs.declared.state.Record.{Record}
-use Rattle.choosing.specs.Buffers.{isPending, requested, freePlace, sharedAfter}
+use Rattle.choosing.specs.Buffers.{isPending}
+use Rattle.sending.specs.Places.{requested, freePlace, sharedAfter}
 use Rattle.sending.specs.declared.requesting.Requested.{Requested}
 use Rattle.sending.specs.declared.requesting.Requested.the-variants.{Buffer, Refused}
 use Rattle.sending.specs.declared.requesting.AfterRequest.{AfterRequest}

@@ -1,6 +1,5 @@
 // Calls 12 and 13, read and acknowledge an event.
 use crate::judging::judge_event;
-use choosing::reporting::with_events;
 use element::EventHeader;
 use engine::areas::Area;
 use engine::areas::event_area;
@@ -49,7 +48,7 @@ fn release_events(s: State, place: u32) -> State
     ensures { λ n. ⌜ n ≡ releasedEvents s place ⌝ }
 {
     let next = ring::release_through(s.events, s.regs.txefc.count(), place);
-    with_events(s, next)
+    s.with_events(next)
 }
 
 // Releases all events up to and including a place.

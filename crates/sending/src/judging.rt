@@ -14,7 +14,7 @@ ghost use Prim.Native.Nat.{_≤_};
 ghost use Rattle.ring.specs.Rings.{Fit};
 ghost use Rattle.engine.specs.Answers.{ruled};
 ghost use Rattle.engine.specs.Areas.{dedicated, txCount, isQueue, eventSize};
-ghost use Rattle.choosing.specs.Judging.{fitThen};
+ghost use Rattle.engine.specs.Fitness.{fitThen};
 ghost use Rattle.sending.specs.Judging.{freeRuling, formRuling, pendingRuling, heldRuling};
 
 // 21, and 23 and 24 of a buffer among so many dedicated ones.

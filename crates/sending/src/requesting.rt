@@ -24,7 +24,7 @@ ghost use Rattle.element.specs.Elements.{txElement};
 ghost use Rattle.element.specs.Fitting.{InFields};
 ghost use Rattle.engine.specs.Areas.{dedicated, dataWords, placeIn, HasPlace};
 ghost use Rattle.engine.specs.Fitness.{Sound};
-ghost use Rattle.choosing.specs.Buffers.{requested, queuePlace, freePlace, sharedAfter, QueueFits};
+ghost use Rattle.sending.specs.Places.{requested, queuePlace, freePlace, sharedAfter, QueueFits};
 ghost use Rattle.sending.specs.Requesting.{requestOutcome, requestIn, requestFree, dedicatedRule, sharedRule, Requestable, Writable};
 
 pub enum Requested {

@@ -49,6 +49,40 @@ module _ {A : Type 0} where
   pub turned-down : {t : Bool} (a : A) → t ≡ true → refuseIf t a ≡ refused a
   turned-down a e = ap (λ (t : Bool). refuseIf t a) e
 
+  -- one, two and three rules that all allow
+  pub one-rule : (x : Bool) (a : A) → first (refuseIf x a ∷ []) ≡ allowed → x ≡ false
+  one-rule x a e = held-off x a (both-allowed (refuseIf x a) (first []) e .0)
+
+  pub all-two : (x y : Bool) (a b : A) → first (refuseIf x a ∷ refuseIf y b ∷ []) ≡ allowed → (x ≡ false) × (y ≡ false)
+  all-two x y a b e =
+      let p = both-allowed (refuseIf x a) (first (refuseIf y b ∷ [])) e in
+      (held-off x a (p .0), one-rule y b (p .1))
+
+  pub all-three : (x y z : Bool) (a b c : A) → first (refuseIf x a ∷ refuseIf y b ∷ refuseIf z c ∷ []) ≡ allowed → (x ≡ false) × (y ≡ false) × (z ≡ false)
+  all-three x y z a b c e =
+      let p = both-allowed (refuseIf x a) (first (refuseIf y b ∷ refuseIf z c ∷ [])) e in
+      let q = all-two y z b c (p .1) in
+      (held-off x a (p .0), q .0, q .1)
+
+  -- two rules found first, and a third after them
+  pub two-refuse : (r q t : Ruling A) {a : A} → (r orElse (q orElse allowed)) ≡ refused a → (r orElse (q orElse t)) ≡ refused a
+  two-refuse allowed allowed t e = cc
+  two-refuse allowed (refused b) t e = e
+  two-refuse (refused b) q t e = e
+
+  pub two-allow : (r q t : Ruling A) → (r orElse (q orElse allowed)) ≡ allowed → (r orElse (q orElse t)) ≡ t
+  two-allow allowed allowed t e = refl
+  two-allow allowed (refused b) t e = cc
+  two-allow (refused b) q t e = cc
+
+  -- what is shown of both ways is shown of what is settled
+  pub settled : {B : Type 0} (P : B → Type 0) (v : Ruling A) (b : B) (f : A → B) → ((a : A) → P (f a)) → (v ≡ allowed → P b) → P (settle v b f)
+  settled P allowed b f p q = q refl
+  settled P (refused a) b f p q = p a
+
+  pub stops : {B : Type 0} {rule : Ruling A} (b : B) (f : A → B) {a : A} → rule ≡ refused a → settle rule b f ≡ f a
+  stops b f e = ap (λ (r : Ruling A). settle r b f) e
+
   -- any number of rules: rule k refuses so and each before it allows, exactly where that is the answer
   abbrev pub Decides : List (Ruling A) → ℕ → A → Type 0
   Decides rs k a = (k < length rs) × (getD rs k allowed ≡ refused a) × ((j : ℕ) → j < k → getD rs j allowed ≡ allowed)

@@ -1,4 +1,5 @@
-use Rattle.choosing.proofs.Judgements.{unfit-first, output-wrong, output-right}
+use Rattle.engine.proofs.Judgements.{unfit-first}
+use Rattle.choosing.proofs.Picks.{output-wrong, output-right}
 use borrow.Author.Needs.{needs}
 use Rattle.choosing.proofs.asking.judge_output.Statement.{statement}
 use Rattle.choosing.proofs.asking.judge_output.Tie as tie

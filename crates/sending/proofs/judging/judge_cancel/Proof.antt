@@ -1,4 +1,4 @@
-use Rattle.choosing.proofs.Judgements.{unfit-first}
+use Rattle.engine.proofs.Judgements.{unfit-first}
 use Rattle.sending.proofs.Judgements.{cancel-rest, few-buffers}
 use borrow.Author.Needs.{needs}
 use Rattle.sending.proofs.judging.judge_cancel.Statement.{statement}

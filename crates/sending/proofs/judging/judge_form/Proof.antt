@@ -1,4 +1,4 @@
-use Rattle.choosing.proofs.Judgements.{unfit-first}
+use Rattle.engine.proofs.Judgements.{unfit-first}
 use Rattle.sending.proofs.Judgements.{form-malformed, form-right}
 use borrow.Author.Needs.{needs}
 use Rattle.sending.proofs.judging.judge_form.Statement.{statement}

@@ -1,0 +1,3 @@
+pub mod Judgements
+pub mod Calls
+pub mod Outcomes

@@ -1,0 +1,37 @@
+use Rattle.taking.proofs.Calls.{read-wrong, read-done}
+use borrow.Author.Needs.{needs}
+use Rattle.taking.proofs.reading.read_in.Statement.{statement}
+use Rattle.taking.proofs.reading.read_in.Tie as tie
+
+returns : tie.Need-returns
+returns c = search (read-wrong, needs)
+
+place-in-requires : tie.Need-place-in-requires
+place-in-requires c κs = search needs
+
+sub-read-rx : tie.Need-sub-read-rx
+sub-read-rx c = search needs
+
+cast-read-rx : tie.Need-cast-read-rx
+cast-read-rx c = search needs
+
+read-rx-requires : tie.Need-read-rx-requires
+read-rx-requires c κs = search needs
+
+same-length : tie.Need-same-length
+same-length c = search needs
+
+returns-2 : tie.Need-returns-2
+returns-2 c = search (read-done, needs)
+
+pub read-in-spec : {M : Type 1} → statement M
+read-in-spec =
+    tie.close
+    (tie.spec
+    returns
+    place-in-requires
+    sub-read-rx
+    cast-read-rx
+    read-rx-requires
+    same-length
+    returns-2)
