@@ -2,3 +2,4 @@ pub mod Settled
 pub mod Exact
 pub mod Unchanged
 pub mod StillFit
+pub mod Stars

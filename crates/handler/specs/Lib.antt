@@ -2,3 +2,4 @@ pub mod Calls
 pub mod Steps
 pub mod Rows
 pub mod Demand1
+pub mod Stars
