@@ -1,7 +1,7 @@
 -- The cases of what is judged, one law each, and what is known where a call is allowed.
 -- Assumes nothing.
 use Prim.Native.Nat.{ℕ, _≤_, _<_}
-use mathlib.Core.Path.{_≡_, sym, ap, _∙_, subst}
+use mathlib.Core.Path.{_≡_, refl, sym, ap, _∙_, subst}
 use mathlib.Core.Bool.{Bool, true, false, not, _&&_, _||_}
 use mathlib.Core.List.{[], _∷_}
 use borrow.Author.Tests.{le-leb, lt-leb, leb-false, not-false}
@@ -10,7 +10,7 @@ use lib.Dec.{eqb, ltb, leb}
 use Rattle.words.specs.Choice.{pick}
 use Rattle.words.specs.Bits.{isSet}
 use Rattle.words.specs.Fields.{bits}
-use Rattle.words.specs.Rules.{allowed, refuseIf, first}
+use Rattle.words.specs.Rules.{Ruling, allowed, refused, refuseIf, first, settle}
 use Rattle.words.proofs.Rulings.{both-allowed, held-off}
 use Rattle.ring.specs.Rings.{Fit, held}
 use Rattle.ring.specs.declared.Ring.{Ring}
@@ -131,6 +131,11 @@ pub ring-tested : (s : State) (r : Record) (words fifo : ℕ) (b : Bool) (q : Ri
 ring-tested s r words fifo b q w n e z a c d = rw (a, d, c) (ring-fits s words fifo (sound-of s r words (sym e ∙ z)))
 
 -- ---- where a call is allowed
+
+-- what is shown of both ways is shown of what is settled
+pub settled : {A B : Type 0} (P : B → Type 0) (v : Ruling A) (b : B) (f : A → B) → ((a : A) → P (f a)) → (v ≡ allowed → P b) → P (settle v b f)
+settled P allowed b f p q = q refl
+settled P (refused a) b f p q = p a
 
 -- three rules that all allow
 pub all-three : (x y z : Bool) (a b c : ℕ) → first (refuseIf x a ∷ refuseIf y b ∷ refuseIf z c ∷ []) ≡ allowed → (x ≡ false) × (y ≡ false) × (z ≡ false)

@@ -2,9 +2,12 @@ pub mod Judgements
 pub mod Calls
 pub mod Notes
 pub mod Stores
+pub mod Lists
 pub mod Takes
 pub mod Outcomes
+pub mod Elements
 pub mod OneElement
+pub mod Acknowledged
 pub mod StillFit
 pub mod Refusals
 pub mod OneOutcome

@@ -1,14 +1,14 @@
 -- Every outcome of a rule, case by case: what is shown of each case is shown of the rule.
 -- Assumes nothing.
 use Prim.Native.Nat.{ℕ, _≤_, _<_}
-use mathlib.Core.Path.{_≡_, refl}
+use mathlib.Core.Path.{_≡_}
 use mathlib.Core.Bool.{Bool, true, false, not, _&&_}
 use mathlib.Core.List.{List, [], _∷_}
 use borrow.Author.Tests.{eqb-true, ltb-false, leb-false, not-false}
 use lib.Dec.{eqb, ltb, leb}
 use lib.ListN.{length}
 use Rattle.words.specs.Bits.{bit, isSet, withoutBit}
-use Rattle.words.specs.Rules.{Ruling, allowed, refused, refuseIf, first, settle}
+use Rattle.words.specs.Rules.{allowed, refuseIf, first, settle}
 use Rattle.words.proofs.Choices.{or-neither}
 use Rattle.words.proofs.Rulings.{both-allowed, held-off}
 use Rattle.ring.specs.Rings.{held, releasedThrough}
@@ -31,13 +31,8 @@ use Rattle.receiving.specs.Fifos.{noPlace, placeFree, noBuffer, bufferFr
 use Rattle.receiving.specs.Reading.{ReadOutcome, readIn, unread, readFifoRule, readBufferRule}
 use Rattle.receiving.specs.Receive.{ReceiveOutcome, intoFifo, intoBuffer, intoNothing, goesTo, receiveRule}
 use Rattle.receiving.specs.Releasing.{ReleaseOutcome, acknowledgeRule, releaseRule, HoldsPlace}
-use Rattle.receiving.proofs.Judgements.{all-three, ring-fits}
-use Rattle.receiving.proofs.Takes.{legal-lists, index-small}
-
--- what is shown of both ways is shown of what is settled
-pub settled : {A B : Type 0} (P : B → Type 0) (v : Ruling A) (b : B) (f : A → B) → ((a : A) → P (f a)) → (v ≡ allowed → P b) → P (settle v b f)
-settled P allowed b f p q = q refl
-settled P (refused a) b f p q = p a
+use Rattle.receiving.proofs.Judgements.{settled, all-three, ring-fits}
+use Rattle.receiving.proofs.Lists.{legal-lists, index-small}
 
 -- ---- call 2
 

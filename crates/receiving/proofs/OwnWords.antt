@@ -47,9 +47,9 @@ use Rattle.receiving.specs.Fifos.{keeperOf, noPlace, placeFree, noBuffer
 use Rattle.receiving.specs.Promises.{SameOwn, SameReceived, SameElement, ReadsOwnWords}
 use Rattle.receiving.specs.Reading.{readIn, unread, readFifoRule, readBufferRule}
 use Rattle.receiving.specs.Receive.{ReceiveOutcome, intoFifo, intoBuffer, intoNothing, goesTo, receiveRule}
-use Rattle.receiving.proofs.OneElement.{element-inside, slot-within}
+use Rattle.receiving.proofs.Elements.{element-inside, slot-within}
 use Rattle.receiving.proofs.Outcomes.{Passed, passed, read-passed}
-use Rattle.receiving.proofs.Takes.{legal-lists}
+use Rattle.receiving.proofs.Lists.{legal-lists}
 
 -- ---- a store in two memories that are alike
 
@@ -99,7 +99,7 @@ module _ (s : State) (r : Record) (mem other : List ℕ) (f : Frame) (d : List �
     says = refl;
     state = refl;
     status = refl;
-    memory = in-slot (keepRule (keeperOf (s .regs) k) (fifoRing s k) r .slot) (slot-within s r mem f d time p k (w .0));
+    memory = in-slot (keepRule (keeperOf (s .regs) k) (fifoRing s k) r .slot) (slot-within s r mem f d p k (w .0));
   }
     where
       in-slot : (x : Slot) → ((n : ℕ) → x ≡ At n → n < fifoSize (s .regs) k)

@@ -1,15 +1,21 @@
 -- What is promised of calls 2 to 6: statements only.
 use Prim.Native.Nat.{ℕ, _+_, _≤_, _<_}
 use mathlib.Core.Path.{_≡_}
-use mathlib.Core.Bool.{false}
+use mathlib.Core.Bool.{false, _&&_}
 use mathlib.Core.List.{List}
+use lib.Dec.{ltb}
 use lib.ListN.{length, getD}
+use Rattle.ring.specs.Rings.{age, held}
 use Rattle.registers.specs.declared.Registers.{Registers}
 use Rattle.layout.specs.Legal.{Has}
 use Rattle.frame.specs.declared.Frame.{Frame}
-use Rattle.engine.specs.Answers.{Says, refuses, answers}
-use Rattle.engine.specs.Areas.{fifoArea, bufferArea, placeIn}
+use Rattle.frame.specs.declared.Matched.the-variants.{Filter}
+use Rattle.element.specs.Elements.{rxElement}
+use Rattle.element.specs.Promises.{Holds}
+use Rattle.engine.specs.Answers.{Says, refuses, answers, done}
+use Rattle.engine.specs.Areas.{fifoSize, fifoArea, bufferArea, placeIn, dataWords}
 use Rattle.engine.specs.Fitness.{unfit}
+use Rattle.engine.specs.States.{fifoRing}
 use Rattle.engine.specs.declared.areas.Area.{Area}
 use Rattle.engine.specs.declared.state.State.{State}
 use Rattle.engine.specs.declared.state.Record.{Record}
@@ -71,6 +77,27 @@ pub record OneElement (s : State) (mem : List ℕ) (o : ReceiveOutcome) : Type 0
 
 abbrev pub ReceiveWritesOneElement : Type 0
 ReceiveWritesOneElement = (s : State) (r : Record) (mem : List ℕ) (f : Frame) (d : List ℕ) (time : ℕ) → OneElement s mem (receiveRule s r mem f d time)
+
+-- ---- what is stored stands in the memory
+
+-- the element that the answer names holds the frame, with its match, its timestamp and its data
+abbrev pub HoldsFrame : Registers → Frame → List ℕ → ℕ → List ℕ → Says Fate → Type 0
+HoldsFrame g f d time mem (answers (stored fifo place m)) = Holds mem (placeIn (fifoArea g fifo) place) (rxElement m f time d (dataWords (fifoArea g fifo)))
+HoldsFrame g f d time mem (answers (storedBuffer buffer i)) = Holds mem (placeIn (bufferArea g) buffer) (rxElement (Filter i) f time d (dataWords (bufferArea g)))
+HoldsFrame g f d time mem (answers (lostTo fifo m)) = Unit {0}
+HoldsFrame g f d time mem (answers (dropped why m)) = Unit {0}
+HoldsFrame g f d time mem (refuses n) = Unit {0}
+
+abbrev pub StoredIsThere : Type 0
+StoredIsThere = (s : State) (r : Record) (mem : List ℕ) (f : Frame) (d : List ℕ) (time : ℕ) → let o = receiveRule s r mem f d time in HoldsFrame (s .regs) f d time (o .memory) (o .says)
+
+-- ---- what an acknowledge releases
+
+-- all held up to and including the place, and no other
+abbrev pub AcknowledgeReleases : Type 0
+AcknowledgeReleases =
+    (s : State) (r : Record) (words fifo place : ℕ) → let o = acknowledgeRule s r words fifo place in let n = fifoSize (s .regs) fifo in o .says ≡ done
+    → (q : ℕ) → held (fifoRing (o .state) fifo) n q ≡ (held (fifoRing s fifo) n q && ltb (age (fifoRing s fifo) n place) (age (fifoRing s fifo) n q))
 
 -- ---- a call reads the words of its own sections alone
 
