@@ -3,3 +3,8 @@ pub mod Exact
 pub mod Unchanged
 pub mod StillFit
 pub mod Stars
+pub mod Demand2Layouts
+pub mod Demand2Choice
+pub mod Demand2Frames
+pub mod Demand2Memory
+pub mod Demand2
