@@ -6,4 +6,3 @@ pub mod Fitness
 pub mod WordsBack
 pub mod OwnWords
 pub mod RoundTrip
-pub mod Stars

@@ -7,4 +7,3 @@ pub mod ActionByAction
 pub mod OwnSection
 pub mod Bounds
 pub mod Answers
-pub mod Stars

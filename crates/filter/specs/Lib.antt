@@ -3,4 +3,3 @@ pub mod Matching
 pub mod Search
 pub mod Destination
 pub mod Promises
-pub mod Stars

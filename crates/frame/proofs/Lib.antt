@@ -3,4 +3,3 @@ pub mod Forms
 pub mod Ranks
 pub mod Order
 pub mod BusOrder
-pub mod Stars

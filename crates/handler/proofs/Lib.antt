@@ -7,3 +7,9 @@ pub mod Others
 pub mod Parts
 pub mod OnlyNamed
 pub mod Tightness
+pub mod Stars
+pub mod Demand2Layouts
+pub mod Demand2Choice
+pub mod Demand2Frames
+pub mod Demand2Memory
+pub mod Demand2

@@ -5,3 +5,5 @@ pub mod Demand1
 pub mod Ties
 pub mod Named
 pub mod Tightness
+pub mod Stars
+pub mod Demand2

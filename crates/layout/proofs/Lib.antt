@@ -5,4 +5,3 @@ pub mod Accepted
 pub mod Names
 pub mod Judged
 pub mod OneAnswer
-pub mod Stars

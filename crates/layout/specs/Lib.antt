@@ -2,4 +2,3 @@ pub mod Sections
 pub mod Verdict
 pub mod Legal
 pub mod Promises
-pub mod Stars

@@ -4,4 +4,3 @@ pub mod Decimals
 pub mod Pushed
 pub mod Told
 pub mod Answers
-pub mod Stars

@@ -3,4 +3,3 @@ pub mod Content
 pub mod Input
 pub mod Printed
 pub mod Promises
-pub mod Stars

@@ -1,8 +1,10 @@
 pub mod Judgements
 pub mod Notes
 pub mod Stores
+pub mod Lists
 pub mod Takes
 pub mod Outcomes
+pub mod Elements
 pub mod OneElement
 pub mod StillFit
 pub mod Refusals

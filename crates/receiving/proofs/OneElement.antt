@@ -2,16 +2,12 @@
 -- Assumes nothing.
 use Prim.Native.Nat.{ℕ, zero, suc, _+_, _≤_, _<_}
 use mathlib.Core.Path.{_≡_, refl, sym, subst}
-use mathlib.Core.Bool.{Bool, true, false}
+use mathlib.Core.Bool.{Bool}
 use mathlib.Core.List.{List}
-use mathlib.Core.Logic.{_⊎_, inl, inr}
-use borrow.Author.Tests.{ltb-true, ltb-false, leb-true, leb-false}
 use native.Mathlib.Nat.{mul-le-mul-right}
 use native.Mathlib.Omega.{arith}
-use lib.Dec.{ltb, leb}
 use lib.ListN.{length, getD}
 use Rattle.words.specs.Fields.{bits}
-use Rattle.words.specs.Runs.{splice}
 use Rattle.registers.specs.Sizes.{elementWords}
 use Rattle.registers.specs.declared.Registers.{Registers}
 use Rattle.layout.specs.Legal.{Has}
@@ -20,52 +16,25 @@ use Rattle.layout.specs.declared.sections.Section.{Section}
 use Rattle.layout.proofs.Table.{Within, within-has, section-words}
 use Rattle.frame.specs.declared.Frame.{Frame}
 use Rattle.frame.specs.declared.Matched.{Matched}
-use Rattle.element.specs.Elements.{element, rxElement}
+use Rattle.element.specs.Elements.{rxElement}
 use Rattle.element.specs.Word0.{word0}
 use Rattle.element.specs.Word1.{rxWord1}
-use Rattle.element.proofs.RoundTrip.{element-placed}
 use Rattle.engine.specs.Answers.{answers}
-use Rattle.engine.specs.Areas.{areaIn, fifoWord, fifoCode, fifoSize, fifoArea, bufferArea, placeIn, Roomy, dataWords}
+use Rattle.engine.specs.Areas.{areaIn, fifoWord, fifoCode, fifoSize, fifoArea, bufferArea, dataWords}
 use Rattle.engine.specs.Fitness.{Sound}
 use Rattle.engine.specs.Keeping.{keepRule, slotMemory}
 use Rattle.engine.specs.States.{fifoRing}
-use Rattle.engine.specs.declared.areas.Area.{Area}
 use Rattle.engine.specs.declared.keeping.Slot.{Slot}
 use Rattle.engine.specs.declared.keeping.Slot.the-variants.{At, Lost}
 use Rattle.engine.specs.declared.state.State.{State}
 use Rattle.engine.specs.declared.state.Record.{Record}
-use Rattle.engine.proofs.Keeps.{kept-within}
-use Rattle.engine.proofs.Rooms.{place-room, fifo-roomy, buffer-roomy}
-use Rattle.engine.proofs.Sounds.{sound-of, ring-fits}
+use Rattle.engine.proofs.Rooms.{fifo-roomy, buffer-roomy}
+use Rattle.engine.proofs.Sounds.{sound-of}
 use Rattle.receiving.specs.Fifos.{keeperOf}
 use Rattle.receiving.specs.Promises.{InElement, OneElement, ReceiveWritesOneElement}
 use Rattle.receiving.specs.Receive.{slotSays, intoFifo, intoBuffer, intoNothing}
+use Rattle.receiving.proofs.Elements.{stored-size, stored-others, slot-within}
 use Rattle.receiving.proofs.Outcomes.{Passed, receive-cases}
-
--- ---- an element at a place
-
-module _ (mem : List ℕ) (a : Area) (place : ℕ) (room : Roomy a (length mem)) (within : place < a .count) where
-  pub element-inside : placeIn a place + 2 + dataWords a ≤ length mem
-  element-inside = omega (arith, place-room a place (length mem) room within, room .header)
-
-  module _ (first second : ℕ) (d : List ℕ) where
-    pub stored-size : length (splice mem (placeIn a place) (element first second d (dataWords a))) ≡ length mem
-    stored-size = element-placed mem (placeIn a place) first second d (dataWords a) element-inside .placed .size
-
-    pub stored-others : (k : ℕ) → (InElement a place k → ⊥) → getD (splice mem (placeIn a place) (element first second d (dataWords a))) k 0 ≡ getD mem k 0
-    stored-others k out =
-        element-placed mem (placeIn a place) first second d (dataWords a) element-inside .placed .outside k
-        (side (ltb k (placeIn a place)) refl (leb (placeIn a place + a .each) k) refl)
-      where
-        words : length (element first second d (dataWords a)) ≡ a .each
-        words = omega (arith, element-placed mem (placeIn a place) first second d (dataWords a) element-inside .words, room .header)
-
-        side : (b : Bool) → ltb k (placeIn a place) ≡ b → (c : Bool) → leb (placeIn a place + a .each) k ≡ c
-            → (k < placeIn a place) ⊎ (placeIn a place + length (element first second d (dataWords a)) ≤ k)
-        side true x c y = inl (ltb-true k (placeIn a place) x)
-        side false x true y = inr (omega (arith, leb-true (placeIn a place + a .each) k y, words))
-        side false x false y =
-            absurd (out (record { from = ltb-false k (placeIn a place) x; below = leb-false (placeIn a place + a .each) k y }))
 
 -- its words are those of its section
 module _ (r : Registers) where
@@ -93,10 +62,6 @@ module _ (s : State) (r : Record) (mem : List ℕ) (f : Frame) (d : List ℕ) (t
   abbrev sound : Passed s r mem f d → Sound s (length mem)
   sound p = sound-of s r (length mem) (p .fit)
 
-  -- a slot's place is one of the FIFO's
-  pub slot-within : Passed s r mem f d → (k : ℕ) → k ≤ 1 → (p : ℕ) → keepRule (keeperOf (s .regs) k) (fifoRing s k) r .slot ≡ At p → p < fifoSize (s .regs) k
-  slot-within p k l = kept-within (keeperOf (s .regs) k) (fifoRing s k) r (record { ring = ring-fits s (length mem) k (sound p); flags = omega arith })
-
   in-slot : Passed s r mem f d → (k : ℕ) → k ≤ 1 → (m : Matched) (x : Slot) → ((p : ℕ) → x ≡ At p → p < fifoSize (s .regs) k) → (t : State) (q : Record)
       → OneElement s mem (record { says = answers (slotSays k m x); state = t; status = q; memory = slotMemory mem (fifoArea (s .regs) k) (rxElement m f time d (dataWords (fifoArea (s .regs) k))) x })
   in-slot p k l m (At place) g t q =
@@ -110,7 +75,7 @@ module _ (s : State) (r : Record) (mem : List ℕ) (f : Frame) (d : List ℕ) (t
 
   fifo-one : Passed s r mem f d → (k : ℕ) (priority : Bool) (m : Matched) → k ≤ 1 → OneElement s mem (intoFifo s r mem f d time k priority m)
   unfolding intoFifo
-  fifo-one p k priority m l = in-slot p k l m (keepRule (keeperOf (s .regs) k) (fifoRing s k) r .slot) (slot-within p k l) _ _
+  fifo-one p k priority m l = in-slot p k l m (keepRule (keeperOf (s .regs) k) (fifoRing s k) r .slot) (slot-within s r mem f d p k l) _ _
 
   buffer-one : Passed s r mem f d → (b i : ℕ) → b < s .regs .buffers → OneElement s mem (intoBuffer s r mem f d time b i)
   unfolding intoBuffer

@@ -21,7 +21,7 @@ use Rattle.engine.specs.declared.state.State.{State}
 use Rattle.engine.specs.declared.state.Record.{Record}
 use Rattle.engine.proofs.Sounds.{sound-of}
 use Rattle.receiving.specs.Receive.{ReceiveOutcome, intoFifo, intoBuffer, intoNothing, goesTo, receiveRule}
-use Rattle.receiving.proofs.Takes.{legal-lists, index-small}
+use Rattle.receiving.proofs.Lists.{legal-lists, index-small}
 
 -- what holds of every call that is not refused
 pub record Passed (s : State) (r : Record) (mem : List ℕ) (f : Frame) (d : List ℕ) : Type 0 where

@@ -1,31 +1,25 @@
 -- The cases of call 2, one law each.
 -- Assumes nothing.
-use Prim.Native.Nat.{ℕ, zero, suc, _+_, _-_, _*_, _≤_, _<_}
+use Prim.Native.Nat.{ℕ, _≤_, _<_}
 use mathlib.Core.Path.{_≡_, refl, sym, ap, _∙_, subst}
 use mathlib.Core.Bool.{Bool}
 use mathlib.Core.List.{List}
 use native.Mathlib.Omega.{arith}
 use lib.ListN.{length}
 use Rattle.words.specs.Bits.{withBit}
-use Rattle.words.specs.Fields.{bits}
 use Rattle.words.specs.Runs.{splice}
 use Rattle.ring.specs.declared.Ring.{Ring}
 use Rattle.registers.specs.declared.Registers.{Registers}
-use Rattle.layout.specs.Legal.{Legal}
-use Rattle.layout.specs.Sections.{memoryWords}
 use Rattle.frame.specs.declared.Frame.{Frame}
 use Rattle.frame.specs.declared.Matched.{Matched}
-use Rattle.frame.specs.declared.Matched.the-variants.{Nothing, Filter}
+use Rattle.frame.specs.declared.Matched.the-variants.{Filter}
 use Rattle.element.specs.Elements.{rxElement}
-use Rattle.element.specs.Fitting.{indexOf}
 use Rattle.filter.specs.Destination.{meaning, reason, destination}
-use Rattle.filter.specs.Promises.{IndexBelow}
 use Rattle.filter.specs.Search.{ListsFit}
 use Rattle.filter.specs.declared.Destination.{Destination}
 use Rattle.filter.specs.declared.Destination.the-variants.{Fifo, Buffer, Discarded}
 use Rattle.filter.specs.declared.Reason.{Reason}
 use Rattle.filter.proofs.Bounds.{fifo-number, fifo-index, buffer-number, buffer-index, discarded-index}
-use Rattle.filter.proofs.Turns.{lists-fit}
 use Rattle.engine.specs.Answers.{Says, answers, ruled}
 use Rattle.engine.specs.Areas.{fifoSize, fifoArea, bufferArea, placeIn, dataWords}
 use Rattle.engine.specs.Fitness.{fitThen}
@@ -53,20 +47,7 @@ use Rattle.receiving.specs.declared.receive.AfterReceive.{AfterReceive}
 use Rattle.receiving.specs.declared.receive.Received
 use Rattle.receiving.specs.declared.receive.Received.{Received}
 use Rattle.receiving.proofs.Judgements.{frame-sound, frame-in-fields}
-
--- ---- the filter lists of a legal layout lie in the memory
-
-room : (start n words : ℕ) → ((k : ℕ) → start ≤ k → k < start + n → k < words) → n ≤ words - start
-room start zero words h = omega arith
-room start (suc n) words h = omega (arith, h (start + n) (omega arith) (omega arith))
-
-pub legal-lists : (r : Registers) (words : ℕ) → Legal memoryWords r words → ListsFit r words
-legal-lists r words h =
-    lists-fit r words
-    (room (bits 15 2 (r .sidfc .word)) (bits 23 16 (r .sidfc .word)) words (λ k a b. h .inside 0 k (omega arith) (record { from = a; below = omega arith })))
-    (h .counted .filters11)
-    (room (bits 15 2 (r .xidfc .word)) (2 * bits 22 16 (r .xidfc .word)) words (λ k a b. h .inside 1 k (omega arith) (record { from = a; below = omega arith })))
-    (h .counted .filters29)
+use Rattle.receiving.proofs.Lists.{legal-lists, index-small}
 
 -- ---- to FIFO 0 or 1
 
@@ -157,10 +138,6 @@ in-buffer s status mem f d time buffer i a last t r u w y z =
     outcome refl y z (w ∙ ap (λ (b : Area). splice mem (placeIn b buffer) (rxElement (Filter i) f time d (dataWords b))) u)
 
 -- ---- by the destination
-
-pub index-small : (m : Matched) → IndexBelow 128 m → indexOf m < 128
-index-small Nothing g = omega arith
-index-small (Filter i) g = g i refl
 
 module _ (s : State) (mem : List ℕ) (f : Frame) (h : Ready s f (length mem)) where
   pub lists-ready : ListsFit (s .regs) (length mem)

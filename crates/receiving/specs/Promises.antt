@@ -7,8 +7,11 @@ use lib.ListN.{length, getD}
 use Rattle.registers.specs.declared.Registers.{Registers}
 use Rattle.layout.specs.Legal.{Has}
 use Rattle.frame.specs.declared.Frame.{Frame}
+use Rattle.frame.specs.declared.Matched.the-variants.{Filter}
+use Rattle.element.specs.Elements.{rxElement}
+use Rattle.element.specs.Promises.{Holds}
 use Rattle.engine.specs.Answers.{Says, refuses, answers}
-use Rattle.engine.specs.Areas.{fifoArea, bufferArea, placeIn}
+use Rattle.engine.specs.Areas.{fifoArea, bufferArea, placeIn, dataWords}
 use Rattle.engine.specs.Fitness.{unfit}
 use Rattle.engine.specs.declared.areas.Area.{Area}
 use Rattle.engine.specs.declared.state.State.{State}
@@ -71,6 +74,19 @@ pub record OneElement (s : State) (mem : List ℕ) (o : ReceiveOutcome) : Type 0
 
 abbrev pub ReceiveWritesOneElement : Type 0
 ReceiveWritesOneElement = (s : State) (r : Record) (mem : List ℕ) (f : Frame) (d : List ℕ) (time : ℕ) → OneElement s mem (receiveRule s r mem f d time)
+
+-- ---- what is stored stands in the memory
+
+-- the element that the answer names holds the frame, with its match, its timestamp and its data
+abbrev pub HoldsFrame : Registers → Frame → List ℕ → ℕ → List ℕ → Says Fate → Type 0
+HoldsFrame g f d time mem (answers (stored fifo place m)) = Holds mem (placeIn (fifoArea g fifo) place) (rxElement m f time d (dataWords (fifoArea g fifo)))
+HoldsFrame g f d time mem (answers (storedBuffer buffer i)) = Holds mem (placeIn (bufferArea g) buffer) (rxElement (Filter i) f time d (dataWords (bufferArea g)))
+HoldsFrame g f d time mem (answers (lostTo fifo m)) = Unit {0}
+HoldsFrame g f d time mem (answers (dropped why m)) = Unit {0}
+HoldsFrame g f d time mem (refuses n) = Unit {0}
+
+abbrev pub StoredIsThere : Type 0
+StoredIsThere = (s : State) (r : Record) (mem : List ℕ) (f : Frame) (d : List ℕ) (time : ℕ) → let o = receiveRule s r mem f d time in HoldsFrame (s .regs) f d time (o .memory) (o .says)
 
 -- ---- a call reads the words of its own sections alone
 

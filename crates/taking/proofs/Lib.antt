@@ -1,3 +1,4 @@
 pub mod Judgements
 pub mod Calls
 pub mod Outcomes
+pub mod Acknowledged

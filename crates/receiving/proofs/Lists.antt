@@ -1,0 +1,31 @@
+-- The filter lists of a legal layout lie in the memory, and the index of a match is small.
+-- Assumes nothing.
+use Prim.Native.Nat.{ℕ, zero, suc, _+_, _-_, _*_, _≤_, _<_}
+use mathlib.Core.Path.{refl}
+use native.Mathlib.Omega.{arith}
+use Rattle.words.specs.Fields.{bits}
+use Rattle.registers.specs.declared.Registers.{Registers}
+use Rattle.layout.specs.Legal.{Legal}
+use Rattle.layout.specs.Sections.{memoryWords}
+use Rattle.frame.specs.declared.Matched.{Matched}
+use Rattle.frame.specs.declared.Matched.the-variants.{Nothing, Filter}
+use Rattle.element.specs.Fitting.{indexOf}
+use Rattle.filter.specs.Promises.{IndexBelow}
+use Rattle.filter.specs.Search.{ListsFit}
+use Rattle.filter.proofs.Turns.{lists-fit}
+
+room : (start n words : ℕ) → ((k : ℕ) → start ≤ k → k < start + n → k < words) → n ≤ words - start
+room start zero words h = omega arith
+room start (suc n) words h = omega (arith, h (start + n) (omega arith) (omega arith))
+
+pub legal-lists : (r : Registers) (words : ℕ) → Legal memoryWords r words → ListsFit r words
+legal-lists r words h =
+    lists-fit r words
+    (room (bits 15 2 (r .sidfc .word)) (bits 23 16 (r .sidfc .word)) words (λ k a b. h .inside 0 k (omega arith) (record { from = a; below = omega arith })))
+    (h .counted .filters11)
+    (room (bits 15 2 (r .xidfc .word)) (2 * bits 22 16 (r .xidfc .word)) words (λ k a b. h .inside 1 k (omega arith) (record { from = a; below = omega arith })))
+    (h .counted .filters29)
+
+pub index-small : (m : Matched) → IndexBelow 128 m → indexOf m < 128
+index-small Nothing g = omega arith
+index-small (Filter i) g = g i refl
