@@ -48,7 +48,7 @@ use Rattle.taking.specs.Releasing.{ReleaseOutcome, acknowledgeRule, releaseRule
 use Rattle.words.proofs.Rulings.{all-three}
 use Rattle.receiving.proofs.Outcomes.{receive-cases}
 use Rattle.taking.proofs.Outcomes.{acknowledge-cases, release-cases}
-use Rattle.receiving.proofs.Takes.{legal-lists}
+use Rattle.receiving.proofs.Lists.{legal-lists}
 use Rattle.ledger.specs.Ledgers.{noteArrival, noteRelease, isHeldAt, entryAt}
 use Rattle.ledger.proofs.Arrivals.{arrival-slot, arrival-told, arrival-holds, arrival-kept}
 use Rattle.ledger.proofs.Balances.{arrival-balanced, release-balanced}
