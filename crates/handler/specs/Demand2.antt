@@ -43,7 +43,7 @@ use Rattle.handler.specs.Calls.{World, start, receive, readFifo, readBuf
 use Rattle.handler.specs.Demand1.{IsFit}
 use Rattle.handler.specs.Steps.{step}
 
--- ---- A layout is accepted exactly when each section is of legal size, inside the memory and apart from the others.
+-- ---- layouts: accepted exactly where every section has a legal size, lies in the memory and shares no word with another
 
 -- section i as reported has exactly the words of section i; one without words is reported to start at 0
 pub record Reported (g : Registers) (i : ℕ) (s : Section) : Type 0 where
@@ -58,7 +58,7 @@ pub record Starts (w : World) (g : Registers) : Type 0 where
   pub past : (i : ℕ) → step w (start g) .0 .says ≡ refused (names 14 i 7) → FirstPast g (length (w .memory)) i
   pub pair : (i j : ℕ) → step w (start g) .0 .says ≡ refused (names 15 i j) → FirstPair g i j
 
--- ---- Each frame goes where the first matching filter, or the no-match rule, sends it, and in memory only that element changes.
+-- ---- received frames: the first filter that matches decides, else the no-match rule; of the memory that one element changes and nothing else
 
 -- a frame is out before the search: it is remote, and RRFS or RRFE is set
 abbrev pub outAtOnce : World → Frame → Bool
@@ -120,7 +120,7 @@ pub record InMemory (w last : World) (f : Frame) (d : List ℕ) (time : ℕ) (fa
   pub others : (k : ℕ) → (Written (w .state .regs) (answers fate) k → ⊥) → getD (last .memory) k 0 ≡ getD (w .memory) k 0
   pub own : (k : ℕ) → Written (w .state .regs) (answers fate) k → (i : ℕ) × (2 ≤ i) × (i ≤ 4) × Has (w .state .regs) i k
 
--- ---- The frame chosen to send is the best in arbitration among pending dedicated buffers with the FIFO head or all pending queue buffers.
+-- ---- the frame sent next: of the pending dedicated buffers, with the shared FIFO's oldest or every pending queue buffer, the one that wins arbitration
 
 -- the bits with which the frame in a Tx buffer goes into arbitration
 abbrev pub bitsIn : World → ℕ → List ℕ
