@@ -20,15 +20,14 @@ use Rattle.element.proofs.Fitness.{read-fits}
 use Rattle.engine.specs.Answers.{Says, refuses, answers, done}
 use Rattle.engine.specs.Areas.{txCount}
 use Rattle.engine.specs.Fitness.{unfit, Sound}
-use Rattle.engine.specs.Overview.{statusOf, statusRule}
 use Rattle.engine.specs.declared.overview.Overview.{Overview}
 use Rattle.engine.proofs.Fits.{pending-is-counted}
 use Rattle.engine.proofs.Sounds.{sound-of}
-use Rattle.receiving.proofs.Judgements.{all-three}
+use Rattle.words.proofs.Rulings.{all-three}
 use Rattle.choosing.specs.Buffers.{noBuffer, isPending, headerOf}
 use Rattle.choosing.specs.Choosing.{Next, none, ChoiceOutcome, choice, chosen, choiceRule, rankAt}
 use Rattle.choosing.specs.Promises.{Candidate, BestOf}
-use Rattle.choosing.specs.Reporting.{ReportOutcome, isChosen, reported, reportRule}
+use Rattle.reporting.specs.Reporting.{ReportOutcome, isChosen, reported, reportRule}
 use Rattle.choosing.proofs.Candidates.{candidates-wait, choice-is-best, none-chosen}
 use Rattle.handler.specs.Calls.{World, askChoice, reportSent, status}
 use Rattle.handler.specs.Demand1.{IsFit}
@@ -134,11 +133,8 @@ module _ (w : World) where
     -- what is counted
 
     counts : (o : Overview) → step w status .0 ≡ answers o → o .pending ≡ howMany (isPending (w .state)) (txCount (w .state .regs))
-    unfolding step statusRule
-    counts o e =
-        let q : answers (statusOf (w .state)) ≡ answers o = rw fit at e in
-        let same : statusOf (w .state) ≡ o = cc in
-        ap (λ (x : Overview). x .pending) (sym same) ∙ pending-is-counted (w .state) (length (w .memory)) sound
+    unfolding step
+    counts o e = pending-is-counted (w .state) (w .status) (length (w .memory)) o e
 
 pub choice-told : (w : World) → IsFit w → Chooses w
 choice-told w fit = record {

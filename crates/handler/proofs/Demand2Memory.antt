@@ -46,14 +46,13 @@ use Rattle.engine.specs.declared.keeping.Slot.{Slot}
 use Rattle.engine.specs.declared.keeping.Slot.the-variants.{At, Lost}
 use Rattle.engine.specs.declared.state.State.{State}
 use Rattle.engine.specs.declared.state.Record.{Record}
-use Rattle.engine.proofs.Sounds.{sound-of}
+use Rattle.engine.proofs.Sounds.{sound-of, ring-fits}
 use Rattle.receiving.specs.Fifos.{keeperOf}
 use Rattle.receiving.specs.Promises.{Written, HoldsFrame}
-use Rattle.receiving.specs.Reading.{readIn, readFifoRule, readBufferRule}
+use Rattle.taking.specs.Reading.{readIn, readFifoRule, readBufferRule}
 use Rattle.receiving.specs.Receive.{Fate, storedBuffer, dropped, ReceiveOutcome, slotSays, intoFifo, intoBuffer, intoNothing, receiveRule}
-use Rattle.receiving.proofs.Acknowledged.{ring-put}
+use Rattle.taking.proofs.Acknowledged.{ring-put}
 use Rattle.receiving.proofs.Elements.{stored-is-there}
-use Rattle.receiving.proofs.Judgements.{ring-fits}
 use Rattle.receiving.proofs.OneElement.{receive-writes-one-element}
 use Rattle.receiving.proofs.Outcomes.{Passed, receive-cases}
 use Rattle.receiving.proofs.Refusals.{no-refusal}

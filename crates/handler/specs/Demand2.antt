@@ -34,7 +34,7 @@ use Rattle.engine.specs.States.{fifoRing}
 use Rattle.engine.specs.declared.overview.Overview.{Overview}
 use Rattle.engine.specs.declared.state.State.{State}
 use Rattle.receiving.specs.Promises.{Written}
-use Rattle.receiving.specs.Reading.{ReadOutcome}
+use Rattle.taking.specs.Reading.{ReadOutcome}
 use Rattle.receiving.specs.Receive.{Fate, stored, storedBuffer, lostTo, dropped}
 use Rattle.choosing.specs.Buffers.{isPending, headerOf}
 use Rattle.choosing.specs.Choosing.{Next, none, send}
