@@ -58,6 +58,14 @@ pub struct State {
     pub cancelled: u32,
 }
 
+impl State {
+    /// A state before any start: its GFC has bits that no start accepts, so every other call gives 20.
+    pub fn never_started() -> State {
+        let registers = Registers { gfc: 0xFFFF_FFFF, ..Registers::default() };
+        State { registers, ..State::default() }
+    }
+}
+
 /// The small record that interrupt code may change.
 #[derive(Clone, Copy, Debug, PartialEq, Eq, Default)]
 pub struct Record {
