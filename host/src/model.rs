@@ -322,6 +322,7 @@ pub fn section(registers: &Registers, number: usize) -> Section {
 }
 
 /// The seven sections.
+#[inline]
 pub fn sections(registers: &Registers) -> [Section; 7] {
     std::array::from_fn(|number| section(registers, number))
 }
