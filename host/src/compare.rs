@@ -37,7 +37,8 @@ impl<T: Copy + Default, const N: usize> Room<T, N> {
 
 impl<T: fmt::LowerHex + Copy + Default, const N: usize> fmt::Debug for Room<T, N> {
     fn fmt(&self, f: &mut fmt::Formatter) -> fmt::Result {
-        write!(f, "{:x?}", self.lent().iter().map(|cell| format!("{cell:x}")).collect::<Vec<_>>().join(" "))
+        let cells: Vec<String> = self.lent().iter().map(|cell| format!("{cell:x}")).collect();
+        write!(f, "[{}]", cells.join(" "))
     }
 }
 
