@@ -393,7 +393,7 @@ impl Comparison {
             + &cells("memory", &l.memory, &m.memory)
             + &cells("output", &l.output, &m.output)
             + &cells("answer", &l.answer, &m.answer)
-            + &format!("  state before {state_before:x?}\n  {:?}\n", self.inputs)
+            + &format!("  state before {state_before:x?}\n  {:x?}\n", self.inputs)
     }
 
     /// What was changed by hand on the model's side, on the library's side too.
