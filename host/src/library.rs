@@ -72,6 +72,11 @@ mod c {
             answer: *mut u32, _: usize,
         ) -> u32;
         pub fn cuongphemi_never_started(state: *mut u32, _: usize) -> u32;
+
+        // A record is two words, flags and priority.
+        pub fn cuongphemi_flags_raise(status: *mut [u32; 2], mask: u32);
+        pub fn cuongphemi_flags_clear(status: *mut [u32; 2], mask: u32);
+        pub fn cuongphemi_priority_put(status: *mut [u32; 2], word: u32);
     }
 }
 
@@ -93,6 +98,24 @@ macro_rules! lend {
     (@ $function:ident [$($given:expr,)*] $number:ident $(, $($rest:tt)*)?) => {
         lend!(@ $function [$($given,)* $number,] $($($rest)*)?)
     };
+}
+
+/// The steps for interrupt code, on a record in place.
+impl Library {
+    pub fn flags_raise(&self, status: &mut [u32; 2], mask: u32) {
+        // SAFETY: the record is borrowed mutably for the call.
+        unsafe { c::cuongphemi_flags_raise(status, mask) }
+    }
+
+    pub fn flags_clear(&self, status: &mut [u32; 2], mask: u32) {
+        // SAFETY: as above.
+        unsafe { c::cuongphemi_flags_clear(status, mask) }
+    }
+
+    pub fn priority_put(&self, status: &mut [u32; 2], word: u32) {
+        // SAFETY: as above.
+        unsafe { c::cuongphemi_priority_put(status, word) }
+    }
 }
 
 impl Calls for Library {
