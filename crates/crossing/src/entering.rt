@@ -1,6 +1,8 @@
 // What the boundary itself finds against a call.
 use engine::state::Record;
 use engine::state::State;
+use packing::frames;
+use packing::frames::FRAME_WORDS;
 use packing::states::RECORD_WORDS;
 use packing::states::REGISTER_WORDS;
 use packing::states::STATE_WORDS;
@@ -11,6 +13,7 @@ use telling::answers::ANSWER_WORDS;
 ghost use mathlib.Core.Path.{_≡_};
 ghost use mathlib.Core.Bool.{_&&_};
 ghost use lib.Dec.{eqb};
+ghost use Rattle.packing.specs.Frames.{plainFrame};
 ghost use Rattle.packing.specs.States.{plainRegisters, packState, packRecord};
 ghost use Rattle.crossing.specs.Crossing.{has, entryNumber, Unpackable};
 
@@ -39,6 +42,14 @@ pub fn enter_registers(state: &[u32], status: &[u32], registers: &[u32], answer:
 {
     let lengths = (registers.len() == REGISTER_WORDS) & (answer == ANSWER_WORDS);
     enter(state, status, lengths, is_plain(registers))
+}
+
+// The same with a frame and an answer of so many words.
+pub fn enter_frame(state: &[u32], status: &[u32], frame: &[u32], answer: usize, words: bool) -> u32
+    ensures { λ n. ⌜ n ≡ entryNumber (now (state .entry)) (now (status .entry)) (has (now (frame .entry)) 7 && eqb answer 16) (words && plainFrame (now (frame .entry))) ⌝ }
+{
+    let lengths = (frame.len() == FRAME_WORDS) & (answer == ANSWER_WORDS);
+    enter(state, status, lengths, words & frames::is_plain(frame))
 }
 
 // The state and the record are written back.
