@@ -48,7 +48,7 @@ pub struct Lent {
     pub state: Room<u32, 32>,
     pub status: Room<u32, 4>,
     pub memory: Room<u32, 3072>,
-    pub output: Room<u8, 96>,
+    pub output: Room<u8, 2048>,
     pub answer: Room<u32, 24>,
 }
 
@@ -75,7 +75,7 @@ impl Default for Lent {
 pub struct Inputs {
     pub registers: Room<u32, 16>,
     pub frame: Room<u32, 9>,
-    pub data: Room<u8, 96>,
+    pub data: Room<u8, 2048>,
     pub time: u16,
     pub fifo: u32,
     pub place: u32,
@@ -403,7 +403,8 @@ impl Comparison {
 
     /// Anything in the output and the answer, so that a cell which should stay is seen to.
     fn scribble(&mut self) {
-        self.model.output.cells.iter_mut().for_each(|byte| *byte = self.random.word() as u8);
+        let first = self.model.output.cells.iter_mut().take(96);
+        first.for_each(|byte| *byte = self.random.word() as u8);
         self.model.answer.cells.iter_mut().for_each(|word| *word = self.random.word());
         self.share();
     }
@@ -470,7 +471,11 @@ impl Comparison {
         let random = &mut self.random;
         let i = &mut self.inputs;
         let r = &state.registers;
-        let output_length = if random.once_in(20) { random.below(90) as usize } else { OUTPUT_BYTES };
+        let output_length = match random.below(40) {
+            0 => random.below(90) as usize,
+            1 => random.below(2048) as usize,
+            _ => OUTPUT_BYTES,
+        };
         self.model.output.length = output_length;
         self.library.output.length = output_length;
         i.time = random.word() as u16;
@@ -561,6 +566,9 @@ impl Comparison {
         if random.once_in(4) {
             let (frame, data) = arbitrary_frame(random);
             i.set_frame(&frame, &data);
+        }
+        if random.once_in(100) {
+            i.data.length = random.below(2048) as usize;
         }
         let mut wild = |number: &mut u32| {
             if random.once_in(4) {
