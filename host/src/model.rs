@@ -1,7 +1,8 @@
 //! The message handler, rule by rule, in the order of the paper.
 //!
-//! Nothing here is fast or clever. Each function follows one rule, the tables are written as tables, and
-//! every function is total: whatever the fields hold, none panics and none reads or writes outside a slice.
+//! Each function follows one rule, the tables are written as tables, and every function is total: whatever the
+//! fields hold, none panics and none reads or writes outside a slice. It is plain Rust as one would write it
+//! without proofs, sets of bits as words and nothing allocated, so that it also serves as a measure of speed.
 //!
 //! A call answers `Ok` with its values or `Err` with the number of its refusal. A refusal changes nothing.
 
@@ -58,6 +59,14 @@ pub struct State {
     pub cancelled: u32,
 }
 
+impl State {
+    /// A state before any start: its GFC has bits that no start accepts, so every other call gives 20.
+    pub fn never_started() -> State {
+        let registers = Registers { gfc: 0xFFFF_FFFF, ..Registers::default() };
+        State { registers, ..State::default() }
+    }
+}
+
 /// The small record that interrupt code may change.
 #[derive(Clone, Copy, Debug, PartialEq, Eq, Default)]
 pub struct Record {
@@ -78,12 +87,17 @@ pub struct Frame {
 }
 
 /// Bits `high` down to `low` of a word, as the paper writes them: 31:30 is `bits(w, 31, 30)`.
-fn bits(word: u32, high: u32, low: u32) -> u32 {
-    let mut value = 0;
-    for at in low..=high {
-        value |= ((word >> at) & 1) << (at - low);
+const fn bits(word: u32, high: u32, low: u32) -> u32 {
+    (word >> low) & ones(high - low + 1) as u32
+}
+
+/// So many ones from bit 0 on, 64 at most.
+pub const fn ones(count: u32) -> u64 {
+    if count >= 64 {
+        u64::MAX
+    } else {
+        (1 << count) - 1
     }
-    value
 }
 
 /// One bit of a word, false beyond bit 31.
@@ -103,9 +117,7 @@ fn word(memory: &[u32], at: u32) -> u32 {
 
 /// Writes the words of one element. Only called once the test for 20 is passed.
 fn put_words(memory: &mut [u32], at: u32, words: &[u32]) {
-    for (k, value) in words.iter().enumerate() {
-        memory[at as usize + k] = *value;
-    }
+    memory[at as usize..][..words.len()].copy_from_slice(words);
 }
 
 // ------------------------------------------------------------------------------------------------------
@@ -154,6 +166,29 @@ const NAMED_FIELDS: [&[(u32, u32)]; 11] = [
     &[(5, 4), (3, 2), (1, 1), (0, 0)],        // GFC: ANFS, ANFE, RRFS, RRFE
     &[(28, 0)],                               // XIDAM: mask
 ];
+
+/// The named bits of a register as a word.
+const fn named_bits(fields: &[(u32, u32)]) -> u32 {
+    let mut word = 0;
+    let mut nth = 0;
+    while nth < fields.len() {
+        let (high, low) = fields[nth];
+        word |= (ones(high - low + 1) as u32) << low;
+        nth += 1;
+    }
+    word
+}
+
+/// The same for the eleven registers.
+const NAMED_BITS: [u32; 11] = {
+    let mut words = [0; 11];
+    let mut register = 0;
+    while register < 11 {
+        words[register] = named_bits(NAMED_FIELDS[register]);
+        register += 1;
+    }
+    words
+};
 
 impl Registers {
     /// The values after a reset: all 0, but the mask of 29-bit identifiers all ones.
@@ -265,27 +300,31 @@ pub struct Section {
     pub words: u32,
 }
 
-/// The seven sections. A section of count 0 has no words, and its start is ignored and reported as 0.
-pub fn sections(registers: &Registers) -> [Section; 7] {
+/// One section. Of count 0 it has no words, and its start is ignored and reported as 0.
+#[inline]
+pub fn section(registers: &Registers, number: usize) -> Section {
     let r = registers;
     // Count, words each, and the register with the start in bits 15:2.
-    let table: [(u32, u32, u32); 7] = [
-        (r.standard_filters(), 1, r.sidfc),
-        (r.extended_filters(), 2, r.xidfc),
-        (r.fifo_size(0), size_words(r.fifo_size_code(0)), r.rxf0c),
-        (r.fifo_size(1), size_words(r.fifo_size_code(1)), r.rxf1c),
-        (r.rx_buffers, size_words(r.rx_buffer_size_code()), r.rxbc),
-        (r.events_size(), 2, r.txefc),
-        (r.tx_buffers(), size_words(r.tx_size_code()), r.txbc),
-    ];
-    let mut reported = [Section::default(); 7];
-    for (section, (count, each, register)) in table.into_iter().enumerate() {
-        if count > 0 {
-            // Only a count that 12 refuses could go past 32 bits.
-            reported[section] = Section { start: bits(register, 15, 2), words: count.saturating_mul(each) };
-        }
+    let (count, each, register) = match number {
+        STANDARD_FILTERS => (r.standard_filters(), 1, r.sidfc),
+        EXTENDED_FILTERS => (r.extended_filters(), 2, r.xidfc),
+        RX_FIFO_0 => (r.fifo_size(0), size_words(r.fifo_size_code(0)), r.rxf0c),
+        RX_FIFO_1 => (r.fifo_size(1), size_words(r.fifo_size_code(1)), r.rxf1c),
+        RX_BUFFERS => (r.rx_buffers, size_words(r.rx_buffer_size_code()), r.rxbc),
+        TX_EVENTS => (r.events_size(), 2, r.txefc),
+        _ => (r.tx_buffers(), size_words(r.tx_size_code()), r.txbc),
+    };
+    if count == 0 {
+        return Section::default();
     }
-    reported
+    // Only a count that 12 refuses could go past 32 bits.
+    Section { start: bits(register, 15, 2), words: count.saturating_mul(each) }
+}
+
+/// The seven sections.
+#[inline]
+pub fn sections(registers: &Registers) -> [Section; 7] {
+    std::array::from_fn(|number| section(registers, number))
 }
 
 // ------------------------------------------------------------------------------------------------------
@@ -312,13 +351,8 @@ pub fn layout_verdict(registers: &Registers, memory_length: usize) -> Result<[Se
     }
 
     // 11: a bit that must be 0 is set.
-    for (value, fields) in registers.words().into_iter().zip(NAMED_FIELDS) {
-        for at in 0..32 {
-            let named = fields.iter().any(|(high, low)| at >= *low && at <= *high);
-            if bit(value, at) && !named {
-                return refuse_start(11, NO_SECTION, NO_SECTION);
-            }
-        }
+    if registers.words().into_iter().zip(NAMED_BITS).any(|(value, named)| value & !named != 0) {
+        return refuse_start(11, NO_SECTION, NO_SECTION);
     }
 
     // 12: a count is over its most; the first section is named. Dedicated and shared each have 32.
@@ -366,22 +400,19 @@ pub fn layout_verdict(registers: &Registers, memory_length: usize) -> Result<[Se
     Ok(all)
 }
 
-/// The held places of a ring, oldest first.
-pub fn held_places(ring: Ring, size: u32) -> Vec<u32> {
-    let mut places = Vec::new();
-    if size > 0 {
-        let mut place = ring.oldest % size;
-        for _ in 0..ring.fill.min(size) {
-            places.push(place);
-            place = (place + 1) % size;
-        }
-    }
-    places
+/// The held places of a ring, oldest first. A ring has at most 128 places.
+pub fn held_places(ring: Ring, size: u32) -> impl Iterator<Item = u32> {
+    (0..ring.fill.min(size)).map(move |older| (ring.oldest % size + older) % size)
 }
 
 /// How many held places are older than this one, or nothing if it is not held.
 fn older_than(ring: Ring, size: u32, place: u32) -> Option<u32> {
-    held_places(ring, size).iter().position(|held| *held == place).map(|older| older as u32)
+    if place >= size {
+        return None;
+    }
+    // Steps in the circle from the oldest place to this one.
+    let older = (place + size - ring.oldest % size) % size;
+    (older < ring.fill).then_some(older)
 }
 
 /// The put place: oldest + fill modulo size, 0 at size 0.
@@ -403,9 +434,7 @@ fn ring_fits(ring: Ring, size: u32) -> bool {
 }
 
 /// The flags that exist: 0 to 15 and 19.
-pub fn flag_exists(flag: u32) -> bool {
-    flag <= 15 || flag == 19
-}
+pub const FLAGS: u32 = 0xFFFF | 1 << 19;
 
 /// 20: the state is unfit.
 pub fn unfit(state: &State, record: &Record, memory_length: usize) -> bool {
@@ -427,29 +456,24 @@ pub fn unfit(state: &State, record: &Record, memory_length: usize) -> bool {
     }
 
     // A pending, sent, cancelled or new-data bit past its count.
-    for buffer in r.tx_buffers()..32 {
-        if bit(state.pending, buffer) || bit(state.sent, buffer) || bit(state.cancelled, buffer) {
-            return true;
-        }
+    let tx_bits = ones(r.tx_buffers()) as u32;
+    if (state.pending | state.sent | state.cancelled) & !tx_bits != 0 {
+        return true;
     }
-    for buffer in r.rx_buffers..64 {
-        if bit64(state.new_data, buffer) {
-            return true;
-        }
+    if state.new_data & !ones(r.rx_buffers) != 0 {
+        return true;
     }
 
     // Shared FIFO pending bits not exactly those of its held places.
     if !r.queue_mode() {
-        let held = held_places(state.shared, r.shared());
-        for place in 0..r.shared() {
-            if bit(state.pending, r.dedicated() + place) != held.contains(&place) {
-                return true;
-            }
+        let held = held_places(state.shared, r.shared()).fold(0, |bits, place| bits | 1u64 << place);
+        if u64::from(state.pending) >> r.dedicated() != held {
+            return true;
         }
     }
 
     // A flag outside 0 to 15 and 19.
-    (0..32).any(|flag| bit(record.flags, flag) && !flag_exists(flag))
+    record.flags & !FLAGS != 0
 }
 
 /// Data bytes in an FD frame, by DLC.
@@ -538,9 +562,8 @@ pub fn extended_matches(filter: &Filter, id: u32, xidam: u32) -> bool {
 
 /// Rule 2: the list of the frame's kind is tried from element 0, and the first match ends the search.
 pub fn first_match(registers: &Registers, memory: &[u32], id: u32, xtd: bool) -> Option<(u32, Filter)> {
-    let all = sections(registers);
     if xtd {
-        let list = all[EXTENDED_FILTERS].start;
+        let list = section(registers, EXTENDED_FILTERS).start;
         for index in 0..registers.extended_filters() {
             let filter = extended_filter(word(memory, list + 2 * index), word(memory, list + 2 * index + 1));
             if extended_matches(&filter, id, registers.xidam) {
@@ -548,7 +571,7 @@ pub fn first_match(registers: &Registers, memory: &[u32], id: u32, xtd: bool) ->
             }
         }
     } else {
-        let list = all[STANDARD_FILTERS].start;
+        let list = section(registers, STANDARD_FILTERS).start;
         for index in 0..registers.standard_filters() {
             let filter = standard_filter(word(memory, list + index));
             if standard_matches(&filter, id) {
@@ -636,26 +659,40 @@ fn word_0_identifier(word0: u32) -> u32 {
     }
 }
 
-/// The data words of an element: byte 0 in bits 7:0, bytes past the size dropped, unused bytes 0.
-pub fn data_words(data: &[u8], size_code: u32) -> Vec<u32> {
-    let mut words = vec![0u32; (size_bytes(size_code) / 4) as usize];
-    for at in 0..size_bytes(size_code) as usize {
-        if at < data.len() {
-            words[at / 4] |= u32::from(data[at]) << (8 * (at % 4));
-        }
-    }
-    words
+/// The words of an element: two of header, then those of the data. The largest element has 18.
+#[derive(Clone, Copy, Debug, PartialEq, Eq)]
+pub struct Element {
+    words: [u32; 18],
+    count: usize,
 }
 
-/// All words of an Rx element: word 1 has ANMF 31, filter index 30:24 (0 if ANMF), timestamp 15:0.
-pub fn rx_element(frame: &Frame, data: &[u8], index: Option<u32>, timestamp: u16, size_code: u32) -> Vec<u32> {
+impl Element {
+    /// Byte 0 in bits 7:0, bytes past the size dropped, unused bytes 0.
+    fn new(word0: u32, word1: u32, data: &[u8], size_code: u32) -> Element {
+        let mut words = [0; 18];
+        words[0] = word0;
+        words[1] = word1;
+        let kept = data.len().min(size_bytes(size_code) as usize);
+        for (word, bytes) in words[2..].iter_mut().zip(data[..kept].chunks(4)) {
+            for (at, byte) in bytes.iter().enumerate() {
+                *word |= u32::from(*byte) << (8 * at);
+            }
+        }
+        Element { words, count: size_words(size_code) as usize }
+    }
+
+    pub fn words(&self) -> &[u32] {
+        &self.words[..self.count]
+    }
+}
+
+/// An Rx element: word 1 has ANMF 31, filter index 30:24 (0 if ANMF), timestamp 15:0.
+pub fn rx_element(frame: &Frame, data: &[u8], index: Option<u32>, timestamp: u16, size_code: u32) -> Element {
     let filter_bits = match index {
         None => 1 << 31,
         Some(index) => (index & 0x7F) << 24,
     };
-    let mut words = vec![word_0(frame), filter_bits | word_1_common(frame) | u32::from(timestamp)];
-    words.extend(data_words(data, size_code));
-    words
+    Element::new(word_0(frame), filter_bits | word_1_common(frame) | u32::from(timestamp), data, size_code)
 }
 
 /// The header of an Rx element as it is read.
@@ -689,22 +726,22 @@ pub fn rx_header(word0: u32, word1: u32) -> RxHeader {
     }
 }
 
-/// Data byte `at` of the element that starts at word `element`.
-fn element_byte(memory: &[u32], element: u32, at: u32) -> u8 {
-    let low = 8 * (at % 4);
-    bits(word(memory, element.saturating_add(2 + at / 4)), low + 7, low) as u8
+/// Writes the first data bytes of the element that starts at word `element`, one for each byte of the output.
+fn put_bytes(memory: &[u32], element: u32, output: &mut [u8]) {
+    for (nth, bytes) in output.chunks_mut(4).enumerate() {
+        let value = word(memory, element.saturating_add(2 + nth as u32)).to_le_bytes();
+        bytes.copy_from_slice(&value[..bytes.len()]);
+    }
 }
 
 // ------------------------------------------------------------------------------------------------------
 // What goes out
 // ------------------------------------------------------------------------------------------------------
 
-/// All words of a Tx element: word 1 has marker 31:24, event wanted 23, the rest 0.
-pub fn tx_element(frame: &Frame, data: &[u8], marker: u8, wish: bool, size_code: u32) -> Vec<u32> {
+/// A Tx element: word 1 has marker 31:24, event wanted 23, the rest 0.
+pub fn tx_element(frame: &Frame, data: &[u8], marker: u8, wish: bool, size_code: u32) -> Element {
     let own = u32::from(marker) << 24 | u32::from(wish) << 23;
-    let mut words = vec![word_0(frame), own | word_1_common(frame)];
-    words.extend(data_words(data, size_code));
-    words
+    Element::new(word_0(frame), own | word_1_common(frame), data, size_code)
 }
 
 /// Rank by arbitration, smaller wins.
@@ -727,42 +764,35 @@ pub fn rank_of_word_0(word0: u32) -> u32 {
 
 /// The address of a Tx buffer's element. A buffer number far past the count gives an address past the memory.
 fn tx_address(registers: &Registers, buffer: u32) -> u32 {
-    sections(registers)[TX_BUFFERS]
+    section(registers, TX_BUFFERS)
         .start
         .saturating_add(buffer.saturating_mul(size_words(registers.tx_size_code())))
 }
 
-/// Candidates: every pending dedicated buffer, with the shared FIFO's oldest or every pending queue buffer.
-pub fn candidates(state: &State) -> Vec<u32> {
+/// Candidates: every pending dedicated buffer, with the shared FIFO's oldest or every pending queue buffer. One
+/// bit for each.
+pub fn candidates(state: &State) -> u32 {
     let r = &state.registers;
-    let mut list = Vec::new();
-    for buffer in 0..r.dedicated() {
-        if bit(state.pending, buffer) {
-            list.push(buffer);
-        }
-    }
     if r.queue_mode() {
-        for buffer in r.dedicated()..r.tx_buffers() {
-            if bit(state.pending, buffer) {
-                list.push(buffer);
-            }
-        }
-    } else if let Some(place) = held_places(state.shared, r.shared()).first() {
-        list.push(r.dedicated() + place);
+        return state.pending & ones(r.tx_buffers()) as u32;
     }
-    list
+    let dedicated = state.pending & ones(r.dedicated()) as u32;
+    match held_places(state.shared, r.shared()).next() {
+        None => dedicated,
+        Some(oldest) => dedicated | 1u32.checked_shl(r.dedicated() + oldest).unwrap_or(0),
+    }
 }
 
 /// The buffer to send next: the smallest rank, and of equal ranks the lower buffer number (house).
 pub fn chosen_buffer(state: &State, memory: &[u32]) -> Option<u32> {
     let mut best: Option<(u32, u32)> = None;
-    for buffer in candidates(state) {
+    let mut left = candidates(state);
+    while left != 0 {
+        let buffer = left.trailing_zeros();
+        left &= left - 1;
         let rank = rank_of_word_0(word(memory, tx_address(&state.registers, buffer)));
-        let better = match best {
-            None => true,
-            Some((best_rank, best_buffer)) => rank < best_rank || (rank == best_rank && buffer < best_buffer),
-        };
-        if better {
+        // Buffers come in the order of their numbers, so an equal rank stays with the lower one.
+        if best.is_none_or(|(best_rank, _)| rank < best_rank) {
             best = Some((rank, buffer));
         }
     }
@@ -781,18 +811,19 @@ pub fn as_sent(registers: &Registers, word0: u32, word1: u32, error_passive: boo
     Frame { id: word_0_identifier(word0), xtd: bit(word0, 30), rtr, fdf, brs, esi, dlc: bits(word1, 19, 16) }
 }
 
-/// The bytes to send: those of the element, and 0xCC past its size.
-pub fn bytes_as_sent(registers: &Registers, memory: &[u32], buffer: u32, sent: &Frame) -> Vec<u8> {
-    let element = tx_address(registers, buffer);
-    let mut bytes = Vec::new();
-    for at in 0..data_length(sent.rtr, sent.fdf, sent.dlc) {
-        if at < size_bytes(registers.tx_size_code()) {
-            bytes.push(element_byte(memory, element, at));
-        } else {
-            bytes.push(0xCC);
-        }
-    }
-    bytes
+/// Writes the bytes to send, those of the element and 0xCC past its size, and answers how many.
+pub fn put_sent_bytes(
+    registers: &Registers,
+    memory: &[u32],
+    buffer: u32,
+    sent: &Frame,
+    output: &mut [u8; OUTPUT_BYTES],
+) -> u32 {
+    let length = data_length(sent.rtr, sent.fdf, sent.dlc);
+    let own = length.min(size_bytes(registers.tx_size_code()));
+    put_bytes(memory, tx_address(registers, buffer), &mut output[..own as usize]);
+    output[own as usize..length as usize].fill(0xCC);
+    length
 }
 
 /// An event has word 0 of the frame as sent; word 1 marker 31:24, type 1 in 23:22, FDF, BRS, DLC, timestamp.
@@ -926,16 +957,16 @@ fn fifo_ring(state: &mut State, fifo: u32) -> &mut Ring {
 }
 
 fn fifo_address(registers: &Registers, fifo: u32, place: u32) -> u32 {
-    let section = if fifo == 0 { RX_FIFO_0 } else { RX_FIFO_1 };
-    sections(registers)[section].start + place * size_words(registers.fifo_size_code(fifo))
+    let number = if fifo == 0 { RX_FIFO_0 } else { RX_FIFO_1 };
+    section(registers, number).start + place * size_words(registers.fifo_size_code(fifo))
 }
 
 fn rx_buffer_address(registers: &Registers, buffer: u32) -> u32 {
-    sections(registers)[RX_BUFFERS].start + buffer * size_words(registers.rx_buffer_size_code())
+    section(registers, RX_BUFFERS).start + buffer * size_words(registers.rx_buffer_size_code())
 }
 
 fn event_address(registers: &Registers, place: u32) -> u32 {
-    sections(registers)[TX_EVENTS].start + 2 * place
+    section(registers, TX_EVENTS).start + 2 * place
 }
 
 /// Rule 6: puts a frame into a FIFO and sets the flags of that FIFO. Answers the place, or nothing if lost.
@@ -979,7 +1010,7 @@ fn store_in_fifo(
     }
     raise(record, group + FIFO_NEW);
     let element = rx_element(frame, data, index, timestamp, r.fifo_size_code(fifo));
-    put_words(memory, fifo_address(&r, fifo, place), &element);
+    put_words(memory, fifo_address(&r, fifo, place), element.words());
     Some(place)
 }
 
@@ -1040,7 +1071,7 @@ pub fn receive(
             } else {
                 let r = state.registers;
                 let element = rx_element(frame, data, Some(index), timestamp, r.rx_buffer_size_code());
-                put_words(memory, rx_buffer_address(&r, buffer), &element);
+                put_words(memory, rx_buffer_address(&r, buffer), element.words());
                 state.new_data |= 1 << buffer;
                 raise(record, RX_BUFFER_STORED);
                 Received { outcome: Outcome::StoredBuffer { buffer }, index: Some(index) }
@@ -1058,20 +1089,18 @@ pub struct Read {
 }
 
 /// Writes min(frame, element) bytes into the lent 64 and leaves the rest.
-fn read_rx_element(memory: &[u32], element: u32, size_code: u32, output: &mut [u8]) -> Read {
+fn read_rx_element(memory: &[u32], element: u32, size_code: u32, output: &mut [u8; OUTPUT_BYTES]) -> Read {
     let header = rx_header(word(memory, element), word(memory, element + 1));
     let bytes = data_length(header.rtr, header.fdf, header.dlc).min(size_bytes(size_code));
-    for at in 0..bytes {
-        output[at as usize] = element_byte(memory, element, at);
-    }
+    put_bytes(memory, element, &mut output[..bytes as usize]);
     Read { header, bytes }
 }
 
 /// Call 3: read in FIFO 0 or 1.
 pub fn read_fifo(
-    state: &mut State,
-    record: &mut Record,
-    memory: &mut [u32],
+    state: &State,
+    record: &Record,
+    memory: &[u32],
     fifo: u32,
     place: u32,
     output: &mut [u8],
@@ -1082,12 +1111,13 @@ pub fn read_fifo(
     if fifo > 1 || place >= state.registers.fifo_size(fifo) {
         return Err(23);
     }
-    if older_than(*fifo_ring(state, fifo), state.registers.fifo_size(fifo), place).is_none() {
+    let ring = if fifo == 0 { state.fifo0 } else { state.fifo1 };
+    if older_than(ring, state.registers.fifo_size(fifo), place).is_none() {
         return Err(29);
     }
-    if output.len() != OUTPUT_BYTES {
+    let Ok(output) = output.try_into() else {
         return Err(30);
-    }
+    };
     let r = &state.registers;
     Ok(read_rx_element(memory, fifo_address(r, fifo, place), r.fifo_size_code(fifo), output))
 }
@@ -1101,8 +1131,8 @@ fn release_up_to(ring: &mut Ring, size: u32, place: u32, older: u32) {
 /// Call 4: acknowledge in FIFO 0 or 1.
 pub fn acknowledge_fifo(
     state: &mut State,
-    record: &mut Record,
-    memory: &mut [u32],
+    record: &Record,
+    memory: &[u32],
     fifo: u32,
     place: u32,
 ) -> Result<(), u32> {
@@ -1123,9 +1153,9 @@ pub fn acknowledge_fifo(
 
 /// Call 5: read an Rx buffer.
 pub fn read_rx_buffer(
-    state: &mut State,
-    record: &mut Record,
-    memory: &mut [u32],
+    state: &State,
+    record: &Record,
+    memory: &[u32],
     buffer: u32,
     output: &mut [u8],
 ) -> Result<Read, u32> {
@@ -1138,20 +1168,15 @@ pub fn read_rx_buffer(
     if !bit64(state.new_data, buffer) {
         return Err(29);
     }
-    if output.len() != OUTPUT_BYTES {
+    let Ok(output) = output.try_into() else {
         return Err(30);
-    }
+    };
     let r = &state.registers;
     Ok(read_rx_element(memory, rx_buffer_address(r, buffer), r.rx_buffer_size_code(), output))
 }
 
 /// Call 6: release an Rx buffer, which clears its new-data bit.
-pub fn release_rx_buffer(
-    state: &mut State,
-    record: &mut Record,
-    memory: &mut [u32],
-    buffer: u32,
-) -> Result<(), u32> {
+pub fn release_rx_buffer(state: &mut State, record: &Record, memory: &[u32], buffer: u32) -> Result<(), u32> {
     if unfit(state, record, memory.len()) {
         return Err(20);
     }
@@ -1177,7 +1202,7 @@ fn request(
 ) {
     let r = state.registers;
     let element = tx_element(frame, data, marker, wish, r.tx_size_code());
-    put_words(memory, tx_address(&r, buffer), &element);
+    put_words(memory, tx_address(&r, buffer), element.words());
     let mask = 1u32 << buffer;
     state.pending |= mask;
     state.sent &= !mask;
@@ -1188,7 +1213,7 @@ fn request(
 #[allow(clippy::too_many_arguments)]
 pub fn request_dedicated(
     state: &mut State,
-    record: &mut Record,
+    record: &Record,
     memory: &mut [u32],
     buffer: u32,
     frame: &Frame,
@@ -1215,7 +1240,7 @@ pub fn request_dedicated(
 /// Call 8: request the shared part. Answers the buffer number.
 pub fn request_shared(
     state: &mut State,
-    record: &mut Record,
+    record: &Record,
     memory: &mut [u32],
     frame: &Frame,
     data: &[u8],
@@ -1250,7 +1275,7 @@ pub fn request_shared(
 }
 
 /// Call 9: cancel. It clears pending and sets cancelled.
-pub fn cancel(state: &mut State, record: &mut Record, memory: &mut [u32], buffer: u32) -> Result<(), u32> {
+pub fn cancel(state: &mut State, record: &mut Record, memory: &[u32], buffer: u32) -> Result<(), u32> {
     if unfit(state, record, memory.len()) {
         return Err(20);
     }
@@ -1284,18 +1309,18 @@ pub struct Choice {
 
 /// Call 10: ask the choice. With nothing pending it answers none and leaves the output alone.
 pub fn choice(
-    state: &mut State,
-    record: &mut Record,
-    memory: &mut [u32],
+    state: &State,
+    record: &Record,
+    memory: &[u32],
     error_passive: bool,
     output: &mut [u8],
 ) -> Result<Option<Choice>, u32> {
     if unfit(state, record, memory.len()) {
         return Err(20);
     }
-    if output.len() != OUTPUT_BYTES {
+    let Ok(output) = output.try_into() else {
         return Err(30);
-    }
+    };
     let Some(buffer) = chosen_buffer(state, memory) else {
         return Ok(None);
     };
@@ -1303,17 +1328,8 @@ pub fn choice(
     let word0 = word(memory, tx_address(r, buffer));
     let word1 = word(memory, tx_address(r, buffer) + 1);
     let header = as_sent(r, word0, word1, error_passive);
-    let bytes = bytes_as_sent(r, memory, buffer, &header);
-    for (at, byte) in bytes.iter().enumerate() {
-        output[at] = *byte;
-    }
-    Ok(Some(Choice {
-        buffer,
-        marker: bits(word1, 31, 24) as u8,
-        wish: bit(word1, 23),
-        header,
-        bytes: bytes.len() as u32,
-    }))
+    let bytes = put_sent_bytes(r, memory, buffer, &header, output);
+    Ok(Some(Choice { buffer, marker: bits(word1, 31, 24) as u8, wish: bit(word1, 23), header, bytes }))
 }
 
 /// Call 11: report sent.
@@ -1377,7 +1393,7 @@ pub fn report_sent(
 }
 
 /// Call 12: read an event. It has no data, so nothing is lent for it.
-pub fn read_event(state: &mut State, record: &mut Record, memory: &mut [u32], place: u32) -> Result<Event, u32> {
+pub fn read_event(state: &State, record: &Record, memory: &[u32], place: u32) -> Result<Event, u32> {
     if unfit(state, record, memory.len()) {
         return Err(20);
     }
@@ -1393,12 +1409,7 @@ pub fn read_event(state: &mut State, record: &mut Record, memory: &mut [u32], pl
 }
 
 /// Call 13: acknowledge an event, and all older ones with it.
-pub fn acknowledge_event(
-    state: &mut State,
-    record: &mut Record,
-    memory: &mut [u32],
-    place: u32,
-) -> Result<(), u32> {
+pub fn acknowledge_event(state: &mut State, record: &Record, memory: &[u32], place: u32) -> Result<(), u32> {
     if unfit(state, record, memory.len()) {
         return Err(20);
     }
@@ -1414,7 +1425,7 @@ pub fn acknowledge_event(
 }
 
 /// Call 14: clear flags by a mask. Ones clear; priority stays.
-pub fn clear_flags(state: &mut State, record: &mut Record, memory: &mut [u32], mask: u32) -> Result<(), u32> {
+pub fn clear_flags(state: &State, record: &mut Record, memory: &[u32], mask: u32) -> Result<(), u32> {
     if unfit(state, record, memory.len()) {
         return Err(20);
     }
@@ -1444,7 +1455,7 @@ fn ring_status(ring: Ring, size: u32) -> RingStatus {
 }
 
 /// Call 15: report status.
-pub fn status(state: &mut State, record: &mut Record, memory: &mut [u32]) -> Result<Status, u32> {
+pub fn status(state: &State, record: &Record, memory: &[u32]) -> Result<Status, u32> {
     if unfit(state, record, memory.len()) {
         return Err(20);
     }
@@ -1454,7 +1465,7 @@ pub fn status(state: &mut State, record: &mut Record, memory: &mut [u32]) -> Res
         fifo1: ring_status(state.fifo1, r.fifo_size(1)),
         events: ring_status(state.events, r.events_size()),
         shared: ring_status(state.shared, r.shared()),
-        pending: (0..32).filter(|buffer| bit(state.pending, *buffer)).count() as u32,
+        pending: state.pending.count_ones(),
     })
 }
 

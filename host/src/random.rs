@@ -360,38 +360,29 @@ fn fitting_ring(random: &mut Random, size: u32) -> Ring {
     Ring { oldest: random.below(size), fill: if random.once_in(4) { size } else { random.between(0, size) } }
 }
 
-/// The lowest `count` bits, 64 at most.
-fn low_bits(count: u32) -> u64 {
-    if count >= 64 {
-        u64::MAX
-    } else {
-        (1 << count) - 1
-    }
-}
-
 /// A state and record that pass the test for 20, with anything in them that it allows.
 pub fn fit_state(random: &mut Random) -> (State, Record) {
     let registers = legal_registers(random);
-    let existing = low_bits(registers.tx_buffers()) as u32;
+    let existing = ones(registers.tx_buffers()) as u32;
     let mut state = State {
         registers,
         fifo0: fitting_ring(random, registers.fifo_size(0)),
         fifo1: fitting_ring(random, registers.fifo_size(1)),
         events: fitting_ring(random, registers.events_size()),
         shared: Ring::default(),
-        new_data: random.next() & low_bits(registers.rx_buffers),
+        new_data: random.next() & ones(registers.rx_buffers),
         pending: random.word() & existing,
         sent: random.word() & existing,
         cancelled: random.word() & existing,
     };
     if !registers.queue_mode() {
         state.shared = fitting_ring(random, registers.shared());
-        state.pending &= low_bits(registers.dedicated()) as u32;
+        state.pending &= ones(registers.dedicated()) as u32;
         for place in held_places(state.shared, registers.shared()) {
             state.pending |= 1 << (registers.dedicated() + place);
         }
     }
-    let record = Record { flags: random.word() & 0x0008_FFFF, priority: random.odd_word() };
+    let record = Record { flags: random.word() & FLAGS, priority: random.odd_word() };
     (state, record)
 }
 

@@ -20,7 +20,7 @@ fn input(source: &mut random::Random, turn: u32) -> Vec<u8> {
     }
     lines += &format!("{:08X}\n", registers.rx_buffers);
     let mut bytes = lines.into_bytes();
-    if turn % 37 == 0 {
+    if turn.is_multiple_of(37) {
         let at = (source.next() % bytes.len() as u64) as usize;
         bytes[at] = source.next() as u8;
     }

@@ -797,13 +797,13 @@ fn hostile_inputs_to_the_single_rules() {
         extended_matches(&extended_filter(a, b), frame.id, b);
         first_match(r, &memory, frame.id, frame.xtd);
         destination(r, &memory, &frame);
-        held_places(state.shared, a & 0x7F);
+        held_places(state.shared, a & 0x7F).count();
         put_place(state.fifo0, a);
         rank(a, frame.xtd, frame.rtr);
         candidates(&state);
         chosen_buffer(&state, &memory);
         let sent = as_sent(r, a, b, frame.esi);
-        bytes_as_sent(r, &memory, a, &sent);
+        put_sent_bytes(r, &memory, a, &sent, &mut [0; 64]);
         rx_element(&frame, &data, Some(a), 0, b);
         tx_element(&frame, &data, 0, frame.brs, b);
         event_words(&frame, 0, 0);

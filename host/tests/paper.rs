@@ -130,37 +130,37 @@ impl Handler {
     }
 
     fn read(&mut self, fifo: u32, place: u32) -> Result<Read, u32> {
-        self.checked(|h| read_fifo(&mut h.state, &mut h.record, &mut h.memory, fifo, place, &mut h.output))
+        self.checked(|h| read_fifo(&h.state, &h.record, &h.memory, fifo, place, &mut h.output))
     }
 
     fn acknowledge(&mut self, fifo: u32, place: u32) -> Result<(), u32> {
-        self.checked(|h| acknowledge_fifo(&mut h.state, &mut h.record, &mut h.memory, fifo, place))
+        self.checked(|h| acknowledge_fifo(&mut h.state, &h.record, &h.memory, fifo, place))
     }
 
     fn read_buffer(&mut self, buffer: u32) -> Result<Read, u32> {
-        self.checked(|h| read_rx_buffer(&mut h.state, &mut h.record, &mut h.memory, buffer, &mut h.output))
+        self.checked(|h| read_rx_buffer(&h.state, &h.record, &h.memory, buffer, &mut h.output))
     }
 
     fn release(&mut self, buffer: u32) -> Result<(), u32> {
-        self.checked(|h| release_rx_buffer(&mut h.state, &mut h.record, &mut h.memory, buffer))
+        self.checked(|h| release_rx_buffer(&mut h.state, &h.record, &h.memory, buffer))
     }
 
     fn dedicated(&mut self, buffer: u32, frame: Frame, data: &[u8], marker: u8, wish: bool) -> Result<u32, u32> {
         self.checked(|h| {
-            request_dedicated(&mut h.state, &mut h.record, &mut h.memory, buffer, &frame, data, marker, wish)
+            request_dedicated(&mut h.state, &h.record, &mut h.memory, buffer, &frame, data, marker, wish)
         })
     }
 
     fn shared(&mut self, frame: Frame, data: &[u8], marker: u8, wish: bool) -> Result<u32, u32> {
-        self.checked(|h| request_shared(&mut h.state, &mut h.record, &mut h.memory, &frame, data, marker, wish))
+        self.checked(|h| request_shared(&mut h.state, &h.record, &mut h.memory, &frame, data, marker, wish))
     }
 
     fn cancel(&mut self, buffer: u32) -> Result<(), u32> {
-        self.checked(|h| cancel(&mut h.state, &mut h.record, &mut h.memory, buffer))
+        self.checked(|h| cancel(&mut h.state, &mut h.record, &h.memory, buffer))
     }
 
     fn choice(&mut self, passive: bool) -> Result<Option<Choice>, u32> {
-        self.checked(|h| choice(&mut h.state, &mut h.record, &mut h.memory, passive, &mut h.output))
+        self.checked(|h| choice(&h.state, &h.record, &h.memory, passive, &mut h.output))
     }
 
     fn report(&mut self, buffer: u32, passive: bool, time: u16) -> Result<(), u32> {
@@ -168,19 +168,19 @@ impl Handler {
     }
 
     fn event(&mut self, place: u32) -> Result<Event, u32> {
-        self.checked(|h| read_event(&mut h.state, &mut h.record, &mut h.memory, place))
+        self.checked(|h| read_event(&h.state, &h.record, &h.memory, place))
     }
 
     fn acknowledge_event(&mut self, place: u32) -> Result<(), u32> {
-        self.checked(|h| acknowledge_event(&mut h.state, &mut h.record, &mut h.memory, place))
+        self.checked(|h| acknowledge_event(&mut h.state, &h.record, &h.memory, place))
     }
 
     fn clear(&mut self, mask: u32) -> Result<(), u32> {
-        self.checked(|h| clear_flags(&mut h.state, &mut h.record, &mut h.memory, mask))
+        self.checked(|h| clear_flags(&h.state, &mut h.record, &h.memory, mask))
     }
 
     fn status(&mut self) -> Result<Status, u32> {
-        self.checked(|h| status(&mut h.state, &mut h.record, &mut h.memory))
+        self.checked(|h| status(&h.state, &h.record, &h.memory))
     }
 
     /// Runs a call and sees to it that a refusal changed nothing.
@@ -371,7 +371,7 @@ fn case_b_filters_taken_apart() {
 fn star_element_words() {
     let expected = [0x048C_0000, 0x0238_1234, 0x0403_0201, 0x0807_0605];
     let frame = Frame { id: 0x123, fdf: true, brs: true, dlc: 8, ..Frame::default() };
-    assert_eq!(rx_element(&frame, &BYTES[..8], Some(2), 0x1234, 0), expected);
+    assert_eq!(rx_element(&frame, &BYTES[..8], Some(2), 0x1234, 0).words(), expected);
 
     // The same by the calls: the third filter sends it to FIFO 0.
     let mut h =
@@ -912,7 +912,10 @@ fn read_refusals() {
 #[test]
 fn tx_element_words() {
     let frame = Frame { id: 0x0123_4567, xtd: true, rtr: false, fdf: true, brs: true, esi: true, dlc: 3 };
-    assert_eq!(tx_element(&frame, &[1, 2, 3], 0xAB, true, 1), [0xC123_4567, 0xABB3_0000, 0x0003_0201, 0, 0]);
+    assert_eq!(
+        tx_element(&frame, &[1, 2, 3], 0xAB, true, 1).words(),
+        [0xC123_4567, 0xABB3_0000, 0x0003_0201, 0, 0]
+    );
 }
 
 #[test]

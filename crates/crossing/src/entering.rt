@@ -1,0 +1,62 @@
+// What the boundary itself finds against a call.
+use engine::state::Record;
+use engine::state::State;
+use packing::frames;
+use packing::frames::FRAME_WORDS;
+use packing::states::RECORD_WORDS;
+use packing::states::REGISTER_WORDS;
+use packing::states::STATE_WORDS;
+use packing::states::is_plain;
+use packing::states::put_record;
+use packing::states::put_state;
+use telling::answers::ANSWER_WORDS;
+ghost use mathlib.Core.Path.{_≡_};
+ghost use mathlib.Core.Bool.{_&&_};
+ghost use lib.Dec.{eqb};
+ghost use Rattle.packing.specs.Frames.{plainFrame};
+ghost use Rattle.packing.specs.States.{plainRegisters, packState, packRecord};
+ghost use Rattle.crossing.specs.Crossing.{has, entryNumber, Unpackable};
+
+// A lent buffer of the boundary's own has another length than its own.
+pub const WRONG_LENGTH: u32 = 100;
+
+// A word that says yes or no is neither 0 nor 1.
+pub const NEITHER: u32 = 101;
+
+// The number to return at once, 0 for none. Told are whether the other buffers have their lengths and the other words say yes or no.
+pub fn enter(state: &[u32], status: &[u32], lengths: bool, words: bool) -> u32
+    ensures { λ n. ⌜ n ≡ entryNumber (now (state .entry)) (now (status .entry)) lengths words ⌝ }
+{
+    if !((state.len() == STATE_WORDS) & (status.len() == RECORD_WORDS) & lengths) {
+        return WRONG_LENGTH;
+    }
+    if !(is_plain(state) & words) {
+        return NEITHER;
+    }
+    0
+}
+
+// The same with registers and an answer of so many words.
+pub fn enter_registers(state: &[u32], status: &[u32], registers: &[u32], answer: usize) -> u32
+    ensures { λ n. ⌜ n ≡ entryNumber (now (state .entry)) (now (status .entry)) (has (now (registers .entry)) 14 && eqb answer 16) (plainRegisters (now (registers .entry))) ⌝ }
+{
+    let lengths = (registers.len() == REGISTER_WORDS) & (answer == ANSWER_WORDS);
+    enter(state, status, lengths, is_plain(registers))
+}
+
+// The same with a frame and an answer of so many words.
+pub fn enter_frame(state: &[u32], status: &[u32], frame: &[u32], answer: usize, words: bool) -> u32
+    ensures { λ n. ⌜ n ≡ entryNumber (now (state .entry)) (now (status .entry)) (has (now (frame .entry)) 7 && eqb answer 16) (words && plainFrame (now (frame .entry))) ⌝ }
+{
+    let lengths = (frame.len() == FRAME_WORDS) & (answer == ANSWER_WORDS);
+    enter(state, status, lengths, words & frames::is_plain(frame))
+}
+
+// The state and the record are written back.
+pub fn put_both(state: &mut [u32], status: &mut [u32], s: State, r: Record)
+    requires { ⌜ Unpackable (now state) (now status) ⌝ }
+    ensures { λ _. ⌜ (now (state .exit) ≡ packState s) × (now (status .exit) ≡ packRecord r) ⌝ }
+{
+    put_state(state, s);
+    put_record(status, r)
+}

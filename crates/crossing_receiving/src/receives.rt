@@ -1,0 +1,60 @@
+// Call 2 on words.
+use crossing::entering::enter_frame;
+use crossing::entering::put_both;
+use packing::frames::take_frame;
+use packing::states::take_record;
+use packing::states::take_state;
+use receiving::receive;
+use receiving::receive::AfterReceive;
+use telling::answers::tell_received;
+ghost use mathlib.Core.Path.{_≡_};
+ghost use mathlib.Core.List.{[]};
+ghost use lib.ListN.{length};
+ghost use Rattle.receiving.specs.Receive.{receiveOutcome, receiveRule};
+ghost use Rattle.packing.specs.Frames.{unpackFrame};
+ghost use Rattle.packing.specs.States.{unpackState, unpackRecord};
+ghost use Rattle.crossing.specs.Crossing.{outcome, lent, Unpackable};
+ghost use Rattle.crossing_receiving.specs.ReceivingCalls.{receiveCall};
+
+// Of the state, record and frame that stand in these words.
+fn receive_of(
+    state: &[u32],
+    status: &[u32],
+    mem: &mut [u32],
+    frame: &[u32],
+    bytes: &[u8],
+    time: u16,
+) -> AfterReceive
+    requires { ⌜ Unpackable (now state) (now status) × (length (now frame) ≡ 7) ⌝ }
+    ensures { λ a. ⌜ receiveOutcome a (now (mem .exit)) ≡ receiveRule (unpackState (now (state .entry))) (unpackRecord (now (status .entry))) (now (mem .entry)) (unpackFrame (now (frame .entry))) (now (bytes .entry)) time ⌝ }
+{
+    receive::receive(
+        take_state(state),
+        take_record(status),
+        mem,
+        take_frame(frame),
+        bytes,
+        time,
+    )
+}
+
+pub fn receive(
+    state: &mut [u32],
+    status: &mut [u32],
+    mem: &mut [u32],
+    frame: &[u32],
+    bytes: &[u8],
+    time: u16,
+    answer: &mut [u32],
+) -> u32
+    ensures { λ n. ⌜ outcome n (lent (now (state .exit)) (now (status .exit)) (now (mem .exit)) (now (answer .exit)) []) ≡ receiveCall (lent (now (state .entry)) (now (status .entry)) (now (mem .entry)) (now (answer .entry)) []) (now (frame .entry)) (now (bytes .entry)) time ⌝ }
+{
+    let n = enter_frame(state, status, frame, answer.len(), true);
+    if n != 0 {
+        return n;
+    }
+    let after = receive_of(state, status, mem, frame, bytes, time);
+    let fate = after.answer;
+    put_both(state, status, after.state, after.status);
+    tell_received(answer, fate)
+}
