@@ -8,9 +8,9 @@ use Rattle.engine.specs.Answers.{replied}
 use Rattle.engine.specs.declared.state.State.{State}
 use Rattle.engine.specs.declared.state.Record.{Record}
 use Rattle.choosing.specs.Choosing.{ChoiceOutcome, choiceOutcome, choiceRule, meaning as choiceSays}
-use Rattle.choosing.specs.Reporting.{ReportOutcome, reportOutcome, reportRule}
+use Rattle.reporting.specs.Reporting.{ReportOutcome, reportOutcome, reportRule}
 use Rattle.choosing.specs.declared.asking.ChoiceAnswer.{ChoiceAnswer}
-use Rattle.choosing.specs.declared.reporting.AfterReport.{AfterReport}
+use Rattle.reporting.specs.declared.report.AfterReport.{AfterReport}
 use Rattle.packing.specs.States.{saysYes, isYesNo, unpackState, unpackRecord, packState, packRecord}
 use Rattle.telling.specs.Telling.{resultOf, toldIn, choiceWords}
 use Rattle.crossing.specs.Crossing.{lent, outcome, has, entryNumber}

@@ -2,7 +2,7 @@
 use Prim.Native.Nat.{ℕ}
 use mathlib.Core.Bool.{true}
 use Rattle.choosing.specs.Choosing.{ChoiceOutcome, choiceRule}
-use Rattle.choosing.specs.Reporting.{ReportOutcome, reportRule}
+use Rattle.reporting.specs.Reporting.{ReportOutcome, reportRule}
 use Rattle.packing.specs.States.{saysYes, isYesNo, packState, packRecord}
 use Rattle.telling.specs.Telling.{resultOf, toldIn, choiceWords}
 use Rattle.crossing.specs.Crossing.{Lent, lent, Outcome, outcome, has, stateOf, recordOf, crossing}

@@ -1,7 +1,7 @@
 // Calls 10 and 11 on words.
 use choosing::asking;
-use choosing::reporting;
-use choosing::reporting::AfterReport;
+use reporting::report;
+use reporting::report::AfterReport;
 use crossing::entering::enter;
 use crossing::entering::put_both;
 use packing::states::take_record;
@@ -11,7 +11,7 @@ use telling::answers::tell_choice;
 use telling::numbers::reply_number;
 ghost use mathlib.Core.Path.{_≡_};
 ghost use mathlib.Core.List.{[]};
-ghost use Rattle.choosing.specs.Reporting.{reportOutcome, reportRule};
+ghost use Rattle.reporting.specs.Reporting.{reportOutcome, reportRule};
 ghost use Rattle.packing.specs.States.{unpackState, unpackRecord};
 ghost use Rattle.crossing.specs.Crossing.{outcome, lent, Unpackable};
 ghost use Rattle.crossing_choosing.specs.ChoosingCalls.{askChoiceCall, reportSentCall};
@@ -47,7 +47,7 @@ fn report_of(
     requires { ⌜ Unpackable (now state) (now status) ⌝ }
     ensures { λ a. ⌜ reportOutcome a (now (mem .exit)) ≡ reportRule (unpackState (now (state .entry))) (unpackRecord (now (status .entry))) (now (mem .entry)) buffer passive time ⌝ }
 {
-    reporting::report_sent(
+    report::report_sent(
         take_state(state),
         take_record(status),
         mem,

@@ -20,10 +20,11 @@ use Rattle.engine.specs.declared.state.State.{State}
 use Rattle.engine.specs.declared.state.Record.{Record}
 use Rattle.receiving.specs.Fifos.{keeperOf}
 use Rattle.receiving.specs.Receive.{ReceiveOutcome, slotSays, intoFifo, intoBuffer, intoNothing, receiveOutcome, receiveRule, meaning as receiveSays}
-use Rattle.receiving.specs.Reading.{ReadOutcome, readIn, readOutcome, readFifoRule, readBufferRule, meaning as readSays}
+use Rattle.taking.specs.Reading.{ReadOutcome, readIn, readOutcome, readFifoRule, readBufferRule, meaning as readSays}
 use Rattle.receiving.specs.declared.receive.AfterReceive.{AfterReceive}
-use Rattle.receiving.specs.declared.reading.ReadAnswer.{ReadAnswer}
-use Rattle.receiving.proofs.Outcomes.{receive-cases, read-fifo-cases, read-buffer-cases}
+use Rattle.taking.specs.declared.reading.ReadAnswer.{ReadAnswer}
+use Rattle.receiving.proofs.Outcomes.{receive-cases}
+use Rattle.taking.proofs.Outcomes.{read-fifo-cases, read-buffer-cases}
 use Rattle.telling.specs.Telling.{FateFits, ReadFits}
 
 -- ---- a receive

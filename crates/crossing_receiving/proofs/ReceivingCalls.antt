@@ -9,11 +9,11 @@ use Rattle.engine.specs.Answers.{replied}
 use Rattle.engine.specs.declared.state.State.{State}
 use Rattle.engine.specs.declared.state.Record.{Record}
 use Rattle.receiving.specs.Receive.{ReceiveOutcome, receiveOutcome, receiveRule, meaning as receiveSays}
-use Rattle.receiving.specs.Reading.{ReadOutcome, readOutcome, readFifoRule, readBufferRule, meaning as readSays}
-use Rattle.receiving.specs.Releasing.{ReleaseOutcome, releaseOutcome, acknowledgeRule, releaseRule}
+use Rattle.taking.specs.Reading.{ReadOutcome, readOutcome, readFifoRule, readBufferRule, meaning as readSays}
+use Rattle.taking.specs.Releasing.{ReleaseOutcome, releaseOutcome, acknowledgeRule, releaseRule}
 use Rattle.receiving.specs.declared.receive.AfterReceive.{AfterReceive}
-use Rattle.receiving.specs.declared.reading.ReadAnswer.{ReadAnswer}
-use Rattle.receiving.specs.declared.releasing.AfterRelease.{AfterRelease}
+use Rattle.taking.specs.declared.reading.ReadAnswer.{ReadAnswer}
+use Rattle.taking.specs.declared.releasing.AfterRelease.{AfterRelease}
 use Rattle.packing.specs.Frames.{plainFrame, unpackFrame}
 use Rattle.packing.specs.States.{unpackState, unpackRecord, packState, packRecord}
 use Rattle.telling.specs.Telling.{resultOf, toldIn, fateWords, readWords}

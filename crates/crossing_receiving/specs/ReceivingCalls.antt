@@ -4,8 +4,8 @@ use mathlib.Core.Bool.{true, _&&_}
 use mathlib.Core.List.{List}
 use lib.ListN.{length}
 use Rattle.receiving.specs.Receive.{ReceiveOutcome, receiveRule}
-use Rattle.receiving.specs.Reading.{ReadOutcome, readFifoRule, readBufferRule}
-use Rattle.receiving.specs.Releasing.{ReleaseOutcome, acknowledgeRule, releaseRule}
+use Rattle.taking.specs.Reading.{ReadOutcome, readFifoRule, readBufferRule}
+use Rattle.taking.specs.Releasing.{ReleaseOutcome, acknowledgeRule, releaseRule}
 use Rattle.packing.specs.Frames.{plainFrame, unpackFrame}
 use Rattle.packing.specs.States.{packState, packRecord}
 use Rattle.telling.specs.Telling.{resultOf, toldIn, fateWords, readWords}

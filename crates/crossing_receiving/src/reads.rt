@@ -2,7 +2,7 @@
 use crossing::entering::enter;
 use packing::states::take_record;
 use packing::states::take_state;
-use receiving::reading;
+use taking::reading;
 use telling::answers::ANSWER_WORDS;
 use telling::answers::tell_read;
 ghost use mathlib.Core.Path.{_≡_};

@@ -3,7 +3,7 @@ use crossing::entering::enter;
 use packing::states::put_state;
 use packing::states::take_record;
 use packing::states::take_state;
-use receiving::releasing;
+use taking::releasing;
 use telling::numbers::reply_number;
 ghost use mathlib.Core.Path.{_≡_};
 ghost use mathlib.Core.List.{[]};

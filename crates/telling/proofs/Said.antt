@@ -25,11 +25,11 @@ use Rattle.engine.specs.declared.overview.Overview.{Overview}
 use Rattle.engine.specs.declared.overview.StatusAnswer.{StatusAnswer}
 use Rattle.engine.specs.declared.overview.StatusAnswer.the-variants.{Told}
 use Rattle.receiving.specs.Receive.{stored, storedBuffer, lostTo, dropped, meaning as receiveSays}
-use Rattle.receiving.specs.Reading.{meaning as readSays}
+use Rattle.taking.specs.Reading.{meaning as readSays}
 use Rattle.receiving.specs.declared.receive.Received.{Received}
 use Rattle.receiving.specs.declared.receive.Received.the-variants.{Stored, StoredBuffer, Lost, Discarded}
-use Rattle.receiving.specs.declared.reading.ReadAnswer.{ReadAnswer}
-use Rattle.receiving.specs.declared.reading.ReadAnswer.the-variants.{Read}
+use Rattle.taking.specs.declared.reading.ReadAnswer.{ReadAnswer}
+use Rattle.taking.specs.declared.reading.ReadAnswer.the-variants.{Read}
 use Rattle.choosing.specs.Choosing.{none, send, meaning as choiceSays}
 use Rattle.choosing.specs.declared.asking.Chosen.{Chosen}
 use Rattle.choosing.specs.declared.asking.ChoiceAnswer.{ChoiceAnswer}
