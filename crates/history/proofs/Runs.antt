@@ -31,7 +31,6 @@ use Rattle.ledger.specs.Ledgers.{emptyLedger}
 use Rattle.ledger.proofs.Balances.{start-balanced}
 use Rattle.ledger.proofs.Holding.{start-holds, start-told}
 use Rattle.ledger.proofs.Runs.{run-keeps, run-foretold}
-use Rattle.requests.proofs.Books.{each-once}
 use Rattle.requests.proofs.Pending.{no-bits}
 use Rattle.requests.proofs.Reporting.{reported-is-chosen}
 use Rattle.requests.proofs.Steps.{start-agrees}
@@ -100,7 +99,6 @@ demand3 r =
       fifos = λ fifo l. let x = a .fifos fifo l in record { balanced = x .balanced; holds = x .holds };
       events = record { balanced = a .events .balanced; holds = a .events .holds };
       requests = a .requests;
-      once = each-once (bookOf r .requests) (a .requests .balanced);
       newdata = a .newdata;
       buffers = a .buffers .words;
       rest = a .rest;

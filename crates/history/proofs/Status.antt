@@ -30,12 +30,12 @@ use Rattle.receiving.specs.Fifos.{keeperOf}
 use Rattle.choosing.specs.Reporting.{eventKeeper}
 use Rattle.ledger.specs.Ledgers.{Ledger}
 use Rattle.ledger.proofs.Seen.{oldest-in-turn, seen-fill, seen-oldest}
-use Rattle.requests.specs.Lists.{tally, All}
+use Rattle.ledger.specs.Lists.{tally, Each}
 use Rattle.requests.specs.Balance.{isShared}
 use Rattle.requests.specs.Requests
 use Rattle.requests.specs.Requests.{Entry, isBuffer}
 use Rattle.requests.specs.Standing.{Agrees, Stands}
-use Rattle.requests.proofs.Lists.{length-those, all-map}
+use Rattle.ledger.proofs.Lists.{length-those, each-map}
 use Rattle.requests.proofs.Steps.{told-by}
 use Rattle.history.specs.Books.{Book, fifoLedger}
 use Rattle.history.specs.Expected.{ringOf, sharedOf, expectStatus}
@@ -68,7 +68,7 @@ one-in e es (suc n) h = go (eqb (e .buffer) n) refl (one-in e es n)
     go true p below = omega (arith, one-past e es n (omega (arith, eqb-true (e .buffer) n p)))
     go false p below = omega (arith, below (omega (arith, eqb-false (e .buffer) n p)))
 
-all-in : (es : List Entry) (n : ℕ) → All (λ (e : Entry). e .buffer < n) es → inBuffers es n ≡ length es
+all-in : (es : List Entry) (n : ℕ) → Each (λ (e : Entry). e .buffer < n) es → inBuffers es n ≡ length es
 all-in [] n h = none-in n
 all-in (e ∷ es) n h = one-in e es n (h .0) ∙ ap suc (all-in es n (h .1))
 
@@ -97,7 +97,7 @@ module _ (g : Registers) (l : Requests.Book) (s : State) (mem : List ℕ) (h : A
   pending-told : howMany (isSet (s .pending)) (txCount g) ≡ length (l .pending)
   pending-told =
       bits-in (s .pending) (l .pending) (h .holds .bits) (txCount g)
-      ∙ all-in (l .pending) (txCount g) (all-map (Stands g mem) (λ (e : Entry). e .buffer < txCount g) (l .pending) (λ e t. t .buffer) (h .holds .stands))
+      ∙ all-in (l .pending) (txCount g) (each-map (Stands g mem) (λ (e : Entry). e .buffer < txCount g) (l .pending) (λ e t. t .buffer) (h .holds .stands))
 
   -- in FIFO mode the requests tell the ring
   fifo-told : isQueue g ≡ false → ringStatus (s .shared) (shared g)

@@ -27,7 +27,6 @@ use Rattle.ledger.specs.Balance
 use Rattle.ledger.specs.Standing.{Holds, elementAt}
 use Rattle.ledger.specs.Histories.{trace, after, book, foretold}
 use Rattle.requests.specs.Requests.{Typed}
-use Rattle.requests.specs.Balance.{EachOnce}
 use Rattle.requests.specs.Standing.{Agrees}
 use Rattle.requests.specs.Expected.{nextOf}
 use Rattle.handler.specs.Calls.{World, Call, start, receive, readFifo, acknowledgeFifo, readBuffer, releaseBuffer, requestDedicated, requestShared, cancel, askChoice, reportSent, readEvent, acknowledgeEvent, clearFlags, status, refusal}
@@ -87,7 +86,6 @@ pub record NothingVanishes (g : Registers) (start : List ℕ) (b : Book) (w : Wo
   pub events : RingKept (eventKeeper g) (eventArea g) (b .events) (w .state .events) (w .memory)
   -- every accepted request is exactly once pending, sent or cancelled; those pending are the pending bits and stand in their buffers word for word; a shared FIFO's are sent in order
   pub requests : Agrees g (b .requests) (w .state) (w .memory)
-  pub once : EachOnce (b .requests)
   -- what an Rx buffer holds
   pub newdata : w .state .newdata ≡ b .newdata
   pub buffers : (n : ℕ) → isSet (b .newdata) n ≡ true → elementAt (bufferArea g) n (w .memory) ≡ lastIn n (b .buffered)

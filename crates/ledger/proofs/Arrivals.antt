@@ -25,7 +25,7 @@ use Rattle.engine.specs.declared.state.Record.{Record}
 use Rattle.engine.proofs.Keeps.{keep-put, keep-none, keep-blocked, keep-over}
 use Rattle.ledger.specs.Ledgers.{Ledger, newEntry, isFull, isBlocking, noteArrival, storedSoFar, expectPut, expectSlot}
 use Rattle.ledger.specs.Standing.{KeptOutside, Holds, Told}
-use Rattle.ledger.proofs.Tallies.{tally-one, tally-append}
+use Rattle.ledger.proofs.Lists.{tally-one, tally-append}
 use Rattle.ledger.proofs.Stores.{kept-refl, store-kept}
 use Rattle.ledger.proofs.Holding.{fewer-hold, more-hold}
 

@@ -22,7 +22,7 @@ use Rattle.engine.specs.declared.keeping.Slot.the-variants.{At}
 use Rattle.ledger.specs.Lists.{tally}
 use Rattle.ledger.specs.Ledgers.{Entry, emptyLedger, noEntry}
 use Rattle.ledger.specs.Standing.{Apart, KeptOutside, KeptWithin, Stands, Holds, Told}
-use Rattle.ledger.proofs.Tallies.{length-snoc}
+use Rattle.ledger.proofs.Lists.{length-snoc}
 use Rattle.ledger.proofs.Stores.{kept-apart, element-kept, store-there, store-other, store-kept}
 
 pub start-holds : (k : Keeper) (a : Area) (mem : List ℕ) → Roomy a (length mem) → a .count ≡ k .size → k .size < 2 ^ 31

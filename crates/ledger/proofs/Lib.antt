@@ -1,4 +1,4 @@
-pub mod Tallies
+pub mod Lists
 pub mod Balances
 pub mod Stores
 pub mod Holding

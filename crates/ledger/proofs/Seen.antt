@@ -14,10 +14,11 @@ use Rattle.ring.proofs.Holding.{held-age}
 use Rattle.engine.specs.declared.areas.Area.{Area}
 use Rattle.engine.specs.declared.keeping.Keeper.{Keeper}
 use Rattle.engine.specs.declared.keeping.Slot.the-variants.{At}
+use Rattle.ledger.specs.Lists.{Each}
 use Rattle.ledger.specs.Ledgers.{Entry, Ledger, noEntry, isStored, entryAt, storedSoFar, expectOldest}
 use Rattle.ledger.specs.Balance.{Balanced}
 use Rattle.ledger.specs.Standing.{elementAt, Holds, Told}
-use Rattle.ledger.proofs.Tallies.{tally-all}
+use Rattle.ledger.proofs.Lists.{each-index, tally-all}
 use Rattle.ledger.proofs.Places.{entry-at, held-here, held-there, held-once}
 
 -- where the next place is that of the n-th in turn, the oldest place is that of the one so many before it as are held
@@ -71,13 +72,8 @@ module _ (k : Keeper) (a : Area) (l : Ledger) (q : Ring) (mem : List ℕ) (h : H
   -- all that are held were stored
   stored-held : Balanced l → q .fill ≤ storedSoFar l
   stored-held b =
-      omega (
-        arith,
-        h .fill,
-        b .whole (λ e. isStored (e .slot)),
-        tally-all (λ e. isStored (e .slot)) noEntry (l .held)
-            (λ i m. ap isStored (h .stands i (omega (arith, h .fill)) .named)),
-      )
+      let stored : Each (λ e. isStored (e .slot) ≡ true) (l .held) = each-index _ noEntry (l .held) (λ i m. ap isStored (h .stands i (omega (arith, h .fill)) .named)) in
+      omega (arith, h .fill, b .parted .whole (λ e. isStored (e .slot)), tally-all (λ e. isStored (e .slot)) (l .held) stored)
 
   -- the oldest place, also where none is held
   pub seen-oldest : Told k l q → Balanced l → q .oldest ≡ expectOldest k l

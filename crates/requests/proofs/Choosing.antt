@@ -26,7 +26,7 @@ use Rattle.engine.specs.declared.state.State.{State}
 use Rattle.choosing.specs.Buffers.{isPending, headerOf}
 use Rattle.choosing.specs.Choosing
 use Rattle.choosing.specs.Choosing.{rankAt, choice, send, ChoiceOutcome, chosen, choiceRule}
-use Rattle.requests.specs.Lists.{tally}
+use Rattle.ledger.specs.Lists.{tally}
 use Rattle.requests.specs.Requests.{Book, isBuffer, hasPending, pendingIn}
 use Rattle.requests.specs.Expected.{inFifo, oldestShared, isCandidate, bestOf, formSent, nextOf, expectChoice}
 use Rattle.requests.specs.Standing.{Circling, TxHolds}

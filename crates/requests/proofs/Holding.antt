@@ -2,7 +2,7 @@
 -- Assumes nothing.
 use Prim.Native.Nat.{ℕ, _+_, _≤_, _<_}
 use mathlib.Core.Path.{_≡_, refl, sym, ap, _∙_}
-use mathlib.Core.Bool.{true, false, true≢false}
+use mathlib.Core.Bool.{true, false, true≢false, not}
 use mathlib.Core.List.{List, [], _∷_, _++_, append-nil}
 use native.Mathlib.Omega.{arith}
 use lib.ListN.{length}
@@ -21,11 +21,11 @@ use Rattle.engine.specs.Areas.{dedicated, shared, txCount, isQueue, txArea, dat
 use Rattle.engine.specs.States.{withTx}
 use Rattle.engine.specs.declared.state.State.{State}
 use Rattle.choosing.specs.Buffers.{requested}
-use Rattle.requests.specs.Lists.{tally, those, others, All}
+use Rattle.ledger.specs.Lists.{tally, those, others, Each}
 use Rattle.requests.specs.Requests.{Request, Typed, Entry, Book, emptyBook, isBuffer, entryFor, noteRequest, hasPending, noEntry, pendingIn}
 use Rattle.requests.specs.Balance.{isShared}
 use Rattle.requests.specs.Standing.{elementOf, Stands, Circling, TxHolds, SameIn}
-use Rattle.requests.proofs.Lists.{tally-append, tally-one, tally-all, those-append, those-one, all-snoc, all-map, all-none, all-others, all-those}
+use Rattle.ledger.proofs.Lists.{tally-append, tally-one, tally-none, those-append, those-one, length-those, each-first, each-snoc, each-map, each-unless, each-passes, each-those}
 use Rattle.requests.proofs.Places.{holds-same, store-same, store-other}
 use Rattle.requests.proofs.Pending.{told, put-bits, clear-bits, no-bits}
 use Rattle.requests.proofs.Circles.{circling-same, circling-pushed}
@@ -52,17 +52,20 @@ module _ (g : Registers) (l : Book) (s : State) (mem : List ℕ) (a : TxHolds g 
 
   -- no bit past the count
   pub none-past : (b : ℕ) → txCount g ≤ b → bit (s .pending) b ≡ 0
-  none-past b h = sym (a .bits b) ∙ tally-all (Stands g mem) (isBuffer b) (l .pending) (λ e t. ne-eqb (e .buffer) b (λ f. omega (arith, t .buffer))) (a .stands)
+  none-past b h = sym (a .bits b) ∙ tally-none (isBuffer b) (l .pending) (each-map (Stands g mem) _ (l .pending) (λ e t. ne-eqb (e .buffer) b (λ f. omega (arith, t .buffer))) (a .stands))
 
   -- a pending buffer has the header and the bytes of the request that the book has in it
   pub reads-back : (b : ℕ) → 0 < tally (isBuffer b) (l .pending)
       → TxBack mem (placeIn (txArea g) b) (dataWords (txArea g)) (pendingIn l b .marker) (pendingIn l b .wish) (pendingIn l b .frame) (pendingIn l b .bytes)
   reads-back b h =
-      let t = all-those (Stands g mem) (isBuffer b) noEntry (l .pending) (a .stands) h in
+      let there : List Entry = those (isBuffer b) (l .pending) in
+      let some : 0 < length there = omega (arith, h, length-those (isBuffer b) (l .pending)) in
+      let t = each-first (Stands g mem) noEntry there some (each-those (isBuffer b) (Stands g mem) (l .pending) (a .stands)) in
+      let here = each-first (λ x. isBuffer b x ≡ true) noEntry there some (each-passes (isBuffer b) (l .pending)) in
       let q = pendingIn l b in
       tx-back mem (placeIn (txArea g) b) (dataWords (txArea g)) (q .marker) (q .wish) (q .frame) (q .bytes)
-      (ap (λ (k : ℕ). part (placeIn (txArea g) k) (length (elementOf g q)) mem) (sym (eqb-true _ b (t .1))) ∙ t .0 .words)
-      (t .0 .typed .marker) (t .0 .formed) (t .0 .typed .bytes)
+      (ap (λ (k : ℕ). part (placeIn (txArea g) k) (length (elementOf g q)) mem) (sym (eqb-true _ b here)) ∙ t .words)
+      (t .typed .marker) (t .formed) (t .typed .bytes)
 
   -- ---- another's step
 
@@ -70,7 +73,7 @@ module _ (g : Registers) (l : Book) (s : State) (mem : List ℕ) (a : TxHolds g 
       → Roomy (txArea g) (length mem) → SameIn (txArea g) mem other → TxHolds g l next other
   holds-elsewhere next other p e room same = record {
     bits = λ b. a .bits b ∙ sym (ap (λ (w : ℕ). bit w b) p);
-    stands = all-map (Stands g mem) (Stands g other) (l .pending)
+    stands = each-map (Stands g mem) (Stands g other) (l .pending)
         (λ x t. record {
           buffer = t .buffer;
           formed = t .formed;
@@ -85,11 +88,11 @@ module _ (g : Registers) (l : Book) (s : State) (mem : List ℕ) (a : TxHolds g 
   -- ---- a request comes
 
   module _ (room : Roomy (txArea g) (length mem)) (b : ℕ) (h : b < txCount g) (q : Request) (w : WellFormed (q .frame) (length (q .bytes))) (t : Typed q) (z : bit (s .pending) b ≡ 0) where
-    put-stands : All (Stands g (splice mem (placeIn (txArea g) b) (elementOf g q))) (l .pending ++ entryFor l b q ∷ [])
+    put-stands : Each (Stands g (splice mem (placeIn (txArea g) b) (elementOf g q))) (l .pending ++ entryFor l b q ∷ [])
     put-stands =
         let each = element-each g (length mem) in
-        all-snoc (Stands g (splice mem (placeIn (txArea g) b) (elementOf g q))) (l .pending) (entryFor l b q)
-        (all-none (Stands g mem) (Stands g (splice mem (placeIn (txArea g) b) (elementOf g q))) (isBuffer b) (l .pending) (a .bits b ∙ z)
+        each-snoc (Stands g (splice mem (placeIn (txArea g) b) (elementOf g q))) (l .pending) (entryFor l b q)
+        (each-unless (isBuffer b) (Stands g mem) (Stands g (splice mem (placeIn (txArea g) b) (elementOf g q))) (l .pending) (a .bits b ∙ z)
         (λ x n v. record {
           buffer = v .buffer;
           formed = v .formed;
@@ -137,7 +140,7 @@ module _ (g : Registers) (l : Book) (s : State) (mem : List ℕ) (a : TxHolds g 
       → TxHolds g (record { requested = l .requested; pending = others (isBuffer b) (l .pending); sent = sent; cancelled = cancelled }) (withTx s ring (withoutBit 32 (s .pending) b) u v) mem
   clear-holds few b h ring sent cancelled u v f e = record {
     bits = clear-bits (l .pending) (s .pending) (a .bits) (λ k past. none-past k (omega arith)) b (omega arith);
-    stands = all-others (Stands g mem) (isBuffer b) (l .pending) (a .stands);
+    stands = each-those (λ x. not (isBuffer b x)) (Stands g mem) (l .pending) (a .stands);
     fifo = f;
     queue = e;
   }

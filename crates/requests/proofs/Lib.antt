@@ -1,4 +1,3 @@
-pub mod Lists
 pub mod Books
 pub mod Places
 pub mod Pending

@@ -43,7 +43,7 @@ use Rattle.requests.specs.Balance.{isShared}
 use Rattle.requests.specs.Expected.{isCandidate, bestOf, expectReport, eventFor, nextOf, expectChoice}
 use Rattle.requests.specs.Standing.{Agrees, SameBeside, InStep, ReportLeaves}
 use Rattle.requests.specs.Promises.{ReportTold, ReportAccepted, ReportedIsChosen, reportOf, ReportDue, ReportLeft}
-use Rattle.requests.proofs.Lists.{those-apart}
+use Rattle.ledger.proofs.Lists.{those-apart}
 use Rattle.requests.proofs.Books.{balanced-sent, outside, ordered-sent-beside, ordered-sent-first}
 use Rattle.requests.proofs.Places.{store-beside, nothing-beside}
 use Rattle.requests.proofs.Circles.{circling-same, circling-released, rest-left, first-gone}
@@ -178,7 +178,7 @@ module _ (l : Book) (s : State) (r : Record) (mem : List ℕ) (i : InStep l s r 
           record {
             holds =
                 clear-holds g l s mem (a .holds) (few-in l s r mem i) b below (s .shared) (noteSent l b .sent) (l .cancelled) (withBit (s .sent) b) (s .cancelled)
-                (λ f. circling-same g l (s .shared) (a .holds .fifo f) (noteSent l b) (those-apart (isShared g) (isBuffer b) (l .pending) (outside g b e f)) refl)
+                (λ f. circling-same g l (s .shared) (a .holds .fifo f) (noteSent l b) (those-apart (isShared g) (isBuffer b) (outside g b e f) (l .pending)) refl)
                 (a .holds .queue);
             balanced = balanced-sent l (a .balanced) b;
             ordered = ordered-sent-beside g l (a .ordered) b e;

@@ -32,13 +32,13 @@ use Rattle.engine.specs.declared.state.Record.{Record}
 use Rattle.choosing.specs.Buffers.{requested, isPending, freePlace, sharedAfter, inSharedFifo, noBuffer}
 use Rattle.sending.specs.Requesting.{RequestOutcome, requestIn, notRequested, dedicatedRule, sharedRule}
 use Rattle.sending.specs.Cancelling.{CancelOutcome, cancelRule}
-use Rattle.requests.specs.Lists.{tally}
+use Rattle.ledger.specs.Lists.{tally}
 use Rattle.requests.specs.Requests.{Request, Book, isBuffer, noteRequest, bookRequest, noteCancel, bookCancel, hasPending}
 use Rattle.requests.specs.Balance.{isShared}
 use Rattle.requests.specs.Expected.{expectDedicated, freeShared, expectShared, expectCancel}
 use Rattle.requests.specs.Standing.{elementOf, TxHolds, InStep, Leaves}
 use Rattle.requests.specs.Promises.{DedicatedTold, DedicatedLeaves, SharedTold, SharedLeaves, CancelTold, CancelLeaves}
-use Rattle.requests.proofs.Lists.{length-those, those-apart}
+use Rattle.ledger.proofs.Lists.{length-those, those-apart}
 use Rattle.requests.proofs.Books.{balanced-request, balanced-cancel, ordered-request, ordered-cancel, outside}
 use Rattle.requests.proofs.Places.{store-beside, nothing-beside}
 use Rattle.requests.proofs.Circles.{circling-same, held-told}
@@ -234,7 +234,7 @@ cancel-leaves l s r mem i buffer =
           agrees = record {
             holds =
                 clear-holds g l s mem (a .holds) (few-in l s r mem i) buffer (leb-false (txCount g) buffer b) (s .shared) (l .sent) (noteCancel l buffer .cancelled) (s .sent) (withBit (s .cancelled) buffer)
-                (λ n. circling-same g l (s .shared) (a .holds .fifo n) (noteCancel l buffer) (those-apart (isShared g) (isBuffer buffer) (l .pending) (outside g buffer f n)) refl)
+                (λ n. circling-same g l (s .shared) (a .holds .fifo n) (noteCancel l buffer) (those-apart (isShared g) (isBuffer buffer) (outside g buffer f n) (l .pending)) refl)
                 (a .holds .queue);
             balanced = balanced-cancel l (a .balanced) buffer;
             ordered = ordered-cancel g l (a .ordered) buffer f;

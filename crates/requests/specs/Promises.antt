@@ -20,15 +20,8 @@ use Rattle.sending.specs.Cancelling.{cancelRule}
 use Rattle.choosing.specs.Choosing.{choiceRule}
 use Rattle.choosing.specs.Reporting.{ReportOutcome, sentState, sentStatus, eventKeeper, reportRule}
 use Rattle.requests.specs.Requests.{Request, Typed, Book, emptyBook, bookRequest, bookCancel, bookReport, pendingIn}
-use Rattle.requests.specs.Balance.{Balanced, EachOnce}
 use Rattle.requests.specs.Expected.{expectDedicated, expectShared, expectCancel, bestOf, nextOf, expectChoice, expectReport, eventFor}
 use Rattle.requests.specs.Standing.{TxHolds, Agrees, SameIn, InStep, Leaves, ReportLeaves, TxFit}
-
--- ---- the book alone
-
--- a book that balances has each number once
-abbrev pub BalancedOnce : Type 0
-BalancedOnce = (l : Book) → Balanced l → EachOnce l
 
 -- ---- start, and steps elsewhere
 

@@ -7,7 +7,7 @@ use lib.ListN.{length, getD}
 use Rattle.frame.specs.declared.Frame.{Frame}
 use Rattle.element.specs.Promises.{AreBytes}
 use Rattle.engine.specs.Answers.{Says, refuses, answers}
-use Rattle.requests.specs.Lists.{tally, those, others}
+use Rattle.ledger.specs.Lists.{tally, those, others}
 
 -- what a request is made with
 pub record Request : Type 0 where

@@ -17,9 +17,9 @@ use Rattle.engine.specs.Fitness.{sharedRingSize, unfit}
 use Rattle.engine.specs.declared.areas.Area.{Area}
 use Rattle.engine.specs.declared.state.State.{State}
 use Rattle.engine.specs.declared.state.Record.{Record}
-use Rattle.requests.specs.Lists.{tally, those, All}
+use Rattle.ledger.specs.Lists.{tally, Each}
 use Rattle.requests.specs.Requests.{Request, Typed, Entry, Book, isBuffer, noEntry}
-use Rattle.requests.specs.Balance.{isShared, Balanced, Ordered}
+use Rattle.requests.specs.Balance.{isShared, waiting, Balanced, Ordered}
 
 -- a request's element, in the area of the Tx buffers
 abbrev pub elementOf : Registers → Request → List ℕ
@@ -36,15 +36,15 @@ pub record Stands (g : Registers) (mem : List ℕ) (e : Entry) : Type 0 where
 -- and how many it ever accepted tells the next one's place
 pub record Circling (g : Registers) (l : Book) (ring : Ring) : Type 0 where
   pub fit : Fit ring (shared g)
-  pub fill : length (those (isShared g) (l .pending)) ≡ ring .fill
-  pub placed : (i : ℕ) → i < ring .fill → getD (those (isShared g) (l .pending)) i noEntry .buffer ≡ dedicated g + placeAfter ring (shared g) i
+  pub fill : length (waiting g l) ≡ ring .fill
+  pub placed : (i : ℕ) → i < ring .fill → getD (waiting g l) i noEntry .buffer ≡ dedicated g + placeAfter ring (shared g) i
   pub next : putPlace ring (shared g) ≡ tally (isShared g) (l .requested) % shared g
 
 -- the buffers hold the book's pending requests and nothing else
 pub record TxHolds (g : Registers) (l : Book) (s : State) (mem : List ℕ) : Type 0 where
   -- bit b is how many pending requests buffer b has: one or none
   pub bits : (b : ℕ) → tally (isBuffer b) (l .pending) ≡ bit (s .pending) b
-  pub stands : All (Stands g mem) (l .pending)
+  pub stands : Each (Stands g mem) (l .pending)
   pub fifo : isQueue g ≡ false → Circling g l (s .shared)
   pub queue : isQueue g ≡ true → s .shared ≡ noneHeld
 
