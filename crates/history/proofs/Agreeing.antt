@@ -21,14 +21,16 @@ use Rattle.receiving.specs.Fifos.{keeperOf}
 use Rattle.choosing.specs.Reporting.{eventKeeper}
 use Rattle.ledger.specs.Ledgers.{Ledger}
 use Rattle.ledger.specs.Balance
-use Rattle.ledger.specs.Standing.{KeptOutside, Holds, Told, elementAt}
+use Rattle.ledger.specs.Memory.{KeptOutside, elementAt}
+use Rattle.ledger.specs.Standing.{Holds, Told}
 use Rattle.ledger.proofs.Holding.{apart-holds}
+use Rattle.ledger.proofs.Sections.{own, own-fifo, own-apart}
 use Rattle.ledger.proofs.Stores.{kept-apart, element-kept}
 use Rattle.requests.specs.Requests
 use Rattle.requests.specs.Standing.{Agrees, RestSame}
 use Rattle.requests.proofs.Steps.{elsewhere-agrees}
 use Rattle.history.specs.Books.{Book, InBuffer, fifoLedger, withFifoLedger, withSending, withBuffers, lastIn}
-use Rattle.history.proofs.Sections.{own, own-fifo, own-apart, Rest, rest-kept}
+use Rattle.history.proofs.Sections.{Rest, rest-kept}
 
 -- a ring, its elements and its ledger agree
 pub record RingAgrees (k : Keeper) (a : Area) (l : Ledger) (q : Ring) (mem : List ℕ) : Type 0 where
@@ -76,10 +78,10 @@ module _ (g : Registers) (mem next : List ℕ) (legal : Legal memoryWords g (len
         ∙ r .words n e;
   }
 
-  requests-elsewhere : i < 4 → (l : Requests.Book) (s after : State) → after .pending ≡ s .pending → after .shared ≡ s .shared → Agrees g l s mem → Agrees g l after next
-  requests-elsewhere h l s after p q r =
-      let same = kept-apart (own g 4) (own g i) mem next kept (own-apart g (length mem) legal i 4 own-i (omega arith) (λ e. omega arith)) in
-      elsewhere-agrees g l s after mem next p q (tx-roomy g (length mem) legal) (record { size = same .size; words = λ k n. same .within k (n .from) (n .below) }) r
+  pub requests-elsewhere : i < 4 → (l : Requests.Book) (s after : State) → after .pending ≡ s .pending → after .shared ≡ s .shared → Agrees g l s mem → Agrees g l after next
+  requests-elsewhere h l s after p q =
+      elsewhere-agrees g l s after mem next p q (tx-roomy g (length mem) legal)
+      (kept-apart (own g 4) (own g i) mem next kept (own-apart g (length mem) legal i 4 own-i (omega arith) (λ e. omega arith)))
 
 -- ---- one part changes
 

@@ -14,7 +14,7 @@ use Rattle.words.specs.Runs.{splice}
 use Rattle.words.proofs.Bits.{bit-lt, bit-and, set-other}
 use Rattle.registers.specs.declared.Registers.{Registers}
 use Rattle.engine.specs.Areas.{bufferArea, placeIn, Roomy}
-use Rattle.ledger.specs.Standing.{elementAt}
+use Rattle.ledger.specs.Memory.{elementAt}
 use Rattle.ledger.proofs.Stores.{store-there, store-other}
 use Rattle.history.specs.Books.{InBuffer, lastIn}
 use Rattle.history.proofs.Agreeing.{BuffersAgree}

@@ -18,7 +18,7 @@ use Rattle.engine.specs.Answers.{answers}
 use Rattle.engine.specs.Areas.{placeIn, dataWords, Roomy}
 use Rattle.engine.specs.declared.areas.Area.{Area}
 use Rattle.receiving.specs.Reading.{readIn}
-use Rattle.ledger.specs.Standing.{elementAt}
+use Rattle.ledger.specs.Memory.{elementAt}
 use Rattle.ledger.proofs.Stores.{element-inside}
 use Rattle.history.specs.Expected.{readOf}
 

@@ -96,7 +96,7 @@ module _ (began : List ℕ) (b : Book) (s : State) (r : Record) (mem : List ℕ)
         let slot = keepRule k q r .slot in
         subst (λ (c : Book). Agreed g began c (intoFifo s r mem f d time fifo priority m .state) (slotMemory mem a ws slot)) (fate-noted fifo m slot)
         (fifo-agreed g began b s mem legal h (slotMemory mem a ws slot) fifo l (noteArrival k ledger ws slot) (keepRule k q r .ring)
-        (arrival-kept k a ledger q mem (x .holds) r ws w)
+        (arrival-kept k a q mem r (x .holds .places) (x .holds .room) (x .holds .ring) ws w)
         (record {
           holds = arrival-holds k a ledger q mem (x .holds) r ws w;
           told = arrival-told k a ledger q mem (x .holds) r (x .told) ws;

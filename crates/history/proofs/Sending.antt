@@ -24,7 +24,7 @@ use Rattle.engine.specs.States.{withEvents}
 use Rattle.engine.specs.declared.keeping.Slot.{Slot}
 use Rattle.engine.specs.declared.state.State.{State}
 use Rattle.engine.specs.declared.state.Record.{Record}
-use Rattle.engine.proofs.Rooms.{event-roomy, tx-roomy}
+use Rattle.engine.proofs.Rooms.{event-roomy}
 use Rattle.engine.proofs.Sounds.{sound-of}
 use Rattle.choosing.specs.Reporting.{ReportOutcome, sentState, sentStatus, eventKeeper, reportRule}
 use Rattle.sending.specs.Events.{noEvent, eventFree, readEventRule, AcknowledgeOutcome, acknowledgeEventRule, releasedEvents}
@@ -32,7 +32,6 @@ use Rattle.sending.proofs.Changes.{refused-leaves-all}
 use Rattle.receiving.proofs.Outcomes.{settled}
 use Rattle.receiving.proofs.Judgements.{all-three}
 use Rattle.ledger.specs.Ledgers.{noteArrival, noteRelease, expectSlot, entryAt}
-use Rattle.ledger.specs.Standing.{KeptOutside}
 use Rattle.ledger.proofs.Arrivals.{arrival-slot, arrival-told, arrival-holds}
 use Rattle.ledger.proofs.Balances.{arrival-balanced, release-balanced}
 use Rattle.ledger.proofs.Releases.{release-test, release-holds, release-told}
@@ -41,14 +40,13 @@ use Rattle.ledger.proofs.Stores.{kept-refl}
 use Rattle.requests.specs.Requests
 use Rattle.requests.specs.Requests.{bookReport, noteSent, pendingIn}
 use Rattle.requests.specs.Expected.{expectReport, eventFor}
-use Rattle.requests.specs.Standing.{InStep, Leaves, ReportLeaves, SameBeside}
+use Rattle.requests.specs.Standing.{InStep, Leaves, ReportLeaves}
 use Rattle.requests.proofs.Reporting.{report-told, report-accepted, report-due, report-left}
-use Rattle.requests.proofs.Steps.{told-by, elsewhere-agrees}
+use Rattle.requests.proofs.Steps.{told-by}
 use Rattle.history.specs.Books.{Book, withSending, noted, noteReport}
 use Rattle.history.specs.Expected.{eventRules, expectReadEvent, expectAcknowledgeEvent}
-use Rattle.history.proofs.Agreeing.{RingAgrees, Agreed, ring-elsewhere, sending-agreed}
+use Rattle.history.proofs.Agreeing.{RingAgrees, Agreed, ring-elsewhere, requests-elsewhere, sending-agreed}
 use Rattle.history.proofs.Elements.{settle-alike, headed-alone}
-use Rattle.history.proofs.Sections.{own}
 
 module _ (began : List ℕ) (b : Book) (s : State) (r : Record) (mem : List ℕ) (fit : unfit s r (length mem) ≡ false) (h : Agreed (s .regs) began b s mem) where
   abbrev g : Registers
@@ -64,9 +62,8 @@ module _ (began : List ℕ) (b : Book) (s : State) (r : Record) (mem : List ℕ)
 
   pub leaves-kept : (l : Requests.Book) (next : State) (other : List ℕ) → Leaves s mem l next other → Agreed g began (withSending b (b .events) l) next other
   leaves-kept l next other v =
-      let kept : KeptOutside (own g 4) mem other = record { size = v .memory .size; outside = v .memory .words } in
-      sending-agreed g began b s mem legal h other 4 (omega arith) (omega arith) kept next (v .state) (b .events) l
-      (rw (v .events) (ring-elsewhere g mem other legal 4 (omega arith) kept 3 (omega arith) (λ e. omega arith) (eventKeeper g) (b .events) (s .events) (h .events)))
+      sending-agreed g began b s mem legal h other 4 (omega arith) (omega arith) (v .memory) next (v .state) (b .events) l
+      (rw (v .events) (ring-elsewhere g mem other legal 4 (omega arith) (v .memory) 3 (omega arith) (λ e. omega arith) (eventKeeper g) (b .events) (s .events) (h .events)))
       (v .agrees)
 
   -- ---- a report
@@ -85,9 +82,6 @@ module _ (began : List ℕ) (b : Book) (s : State) (r : Record) (mem : List ℕ)
 
     abbrev no-event : ReportOutcome
     no-event = record { says = done; state = sentState s buffer; status = sentStatus s r buffer; memory = mem }
-
-    outside : (o : ReportOutcome) → SameBeside (eventArea g) mem (o .memory) → KeptOutside (own g 3) mem (o .memory)
-    outside o v = record { size = v .size; outside = v .words }
 
     -- the event's slot is the one that the book tells
     event-held : RingAgrees (eventKeeper g) (eventArea g) (noteArrival (eventKeeper g) (b .events) ws (expectSlot (eventKeeper g) (b .events))) (kept-event .state .events) (kept-event .memory)
@@ -109,9 +103,9 @@ module _ (began : List ℕ) (b : Book) (s : State) (r : Record) (mem : List ℕ)
     accepted : (t : Bool) → ReportLeaves s mem (bookReport l buffer (due t .says)) (due t .state) (due t .memory)
         → Agreed g began (noted b (λ x. withSending b (pick t (noteArrival (eventKeeper g) (b .events) ws (expectSlot (eventKeeper g) (b .events))) (b .events)) (noteSent l buffer)) (due t .says)) (due t .state) (due t .memory)
     accepted true v =
-        sending-agreed g began b s mem legal h (kept-event .memory) 3 (omega arith) (omega arith) (outside kept-event (v .memory)) (kept-event .state) (v .state) _ (noteSent l buffer) event-held (v .agrees)
+        sending-agreed g began b s mem legal h (kept-event .memory) 3 (omega arith) (omega arith) (v .memory) (kept-event .state) (v .state) _ (noteSent l buffer) event-held (v .agrees)
     accepted false v =
-        sending-agreed g began b s mem legal h mem 3 (omega arith) (omega arith) (outside no-event (v .memory)) (no-event .state) (v .state) (b .events) (noteSent l buffer) (h .events) (v .agrees)
+        sending-agreed g began b s mem legal h mem 3 (omega arith) (omega arith) (v .memory) (no-event .state) (v .state) (b .events) (noteSent l buffer) (h .events) (v .agrees)
 
     abbrev Left : ReportOutcome → Type 0
     Left o = Agreed g began (noted b (λ t. noteReport g b buffer passive time) (o .says)) (o .state) (o .memory)
@@ -166,7 +160,7 @@ module _ (began : List ℕ) (b : Book) (s : State) (r : Record) (mem : List ℕ)
           told = release-told k (eventArea g) (b .events) (s .events) mem (x .holds) place here (x .told);
           balanced = release-balanced (b .events) (x .balanced) place;
         })
-        (elsewhere-agrees g (b .requests) s (releasedEvents s place) mem mem refl refl (tx-roomy g (length mem) legal) (record { size = refl; words = λ k n. refl }) (h .requests)))
+        (requests-elsewhere g mem mem legal 3 (omega arith) (kept-refl (eventArea g) mem) (omega arith) (b .requests) s (releasedEvents s place) refl refl (h .requests)))
 
     pub read-event-told : readEventRule s r mem place ≡ expectReadEvent g b place
     unfolding readEventRule expectReadEvent

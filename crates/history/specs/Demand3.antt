@@ -24,7 +24,8 @@ use Rattle.choosing.specs.Reporting.{eventKeeper}
 use Rattle.ledger.specs.Lists.{Each}
 use Rattle.ledger.specs.Ledgers.{Ledger}
 use Rattle.ledger.specs.Balance
-use Rattle.ledger.specs.Standing.{Holds, elementAt}
+use Rattle.ledger.specs.Memory.{elementAt}
+use Rattle.ledger.specs.Standing.{Holds}
 use Rattle.ledger.specs.Histories.{trace, after, book, foretold}
 use Rattle.requests.specs.Requests.{Typed}
 use Rattle.requests.specs.Standing.{Agrees}

@@ -10,7 +10,7 @@ use lib.Dec.{eqb, ltb}
 use lib.ListN.{length, drop}
 use borrow.Author.Tests.{eq-eqb, ne-eqb, eqb-true, eqb-false, ltb-true, ltb-false}
 use Rattle.words.specs.Runs.{splice}
-use Rattle.ring.specs.Rings.{placeAfter, putPlace, pushed, overwritten, released}
+use Rattle.ring.specs.Rings.{Fit, placeAfter, putPlace, pushed, overwritten, released}
 use Rattle.ring.specs.declared.Ring.{Ring}
 use Rattle.ring.proofs.Circle.{place-lt, place-released, place-overwritten, put-full}
 use Rattle.ring.proofs.Moves.{place-pushed}
@@ -24,7 +24,8 @@ use Rattle.engine.specs.declared.keeping.Slot.the-variants.{At, Lost}
 use Rattle.engine.specs.declared.state.Record.{Record}
 use Rattle.engine.proofs.Keeps.{keep-put, keep-none, keep-blocked, keep-over}
 use Rattle.ledger.specs.Ledgers.{Ledger, newEntry, isFull, isBlocking, noteArrival, storedSoFar, expectPut, expectSlot}
-use Rattle.ledger.specs.Standing.{KeptOutside, Holds, Told}
+use Rattle.ledger.specs.Memory.{areaEnd, KeptOutside}
+use Rattle.ledger.specs.Standing.{Holds, Told}
 use Rattle.ledger.proofs.Lists.{tally-one, tally-append}
 use Rattle.ledger.proofs.Stores.{kept-refl, store-kept}
 use Rattle.ledger.proofs.Holding.{fewer-hold, more-hold}
@@ -61,6 +62,15 @@ module _ (k : Keeper) (q : Ring) (r : Record) (G : Kept → Type 0)
           let m : k .size ≤ q .fill = ltb-false (q .fill) (k .size) e in
           subst G (keep-blocked k q r m (losing k q r .status) (eqb-false (k .size) 0 f) g refl)
           (loses m (ap (λ (b : Bool). not b || eqb (k .size) 0) g))
+
+-- whatever the slot, no word outside the area changes
+pub arrival-kept : (k : Keeper) (a : Area) (q : Ring) (mem : List ℕ) (r : Record) → a .count ≡ k .size → areaEnd a ≤ length mem → Fit q (k .size)
+    → (ws : List ℕ) → length ws ≡ a .each → KeptOutside a mem (slotMemory mem a ws (keepRule k q r .slot))
+arrival-kept k a q mem r places room fit ws w =
+    by-outcome k q r (λ x. KeptOutside a mem (slotMemory mem a ws (x .slot)))
+    (λ m. store-kept a mem room (putPlace q (k .size)) (omega (arith, place-lt q (k .size) (q .fill) (omega arith))) ws w)
+    (λ m z b. store-kept a mem room (q .oldest) (omega (arith, fit .place)) ws w)
+    (λ m b. kept-refl a mem)
 
 module _ (k : Keeper) (l : Ledger) where
   pub expect-lost : isFull k l ≡ true → isBlocking k ≡ true → expectSlot k l ≡ Lost
@@ -120,10 +130,3 @@ module _ (k : Keeper) (a : Area) (l : Ledger) (q : Ring) (mem : List ℕ) (h : H
         (λ m. rw (not-full m) (more-hold k a (l .held) q mem h (newEntry l ws (At (putPlace q (k .size)))) m w refl))
         (λ m z b. rw (is-full m) (over m z))
         (λ m b. h)
-
-    pub arrival-kept : KeptOutside a mem (slotMemory mem a ws (keepRule k q r .slot))
-    arrival-kept =
-        by-outcome k q r (λ x. KeptOutside a mem (slotMemory mem a ws (x .slot)))
-        (λ m. store-kept a mem (h .room) (putPlace q (k .size)) (omega (arith, h .places, place-lt q (k .size) (q .fill) (omega arith))) ws w)
-        (λ m z b. store-kept a mem (h .room) (q .oldest) (omega (arith, h .places, h .ring .place)) ws w)
-        (λ m b. kept-refl a mem)

@@ -21,7 +21,8 @@ use Rattle.engine.specs.declared.keeping.Keeper.{Keeper}
 use Rattle.engine.specs.declared.keeping.Slot.the-variants.{At}
 use Rattle.ledger.specs.Lists.{tally}
 use Rattle.ledger.specs.Ledgers.{Entry, emptyLedger, noEntry}
-use Rattle.ledger.specs.Standing.{Apart, KeptOutside, KeptWithin, Stands, Holds, Told}
+use Rattle.ledger.specs.Memory.{Apart, KeptOutside, KeptWithin}
+use Rattle.ledger.specs.Standing.{Stands, Holds, Told}
 use Rattle.ledger.proofs.Lists.{length-snoc}
 use Rattle.ledger.proofs.Stores.{kept-apart, element-kept, store-there, store-other, store-kept}
 

@@ -1,6 +1,7 @@
 pub mod Lists
 pub mod Balances
 pub mod Stores
+pub mod Sections
 pub mod Holding
 pub mod Arrivals
 pub mod Places

@@ -17,7 +17,8 @@ use Rattle.engine.specs.declared.keeping.Slot.the-variants.{At}
 use Rattle.ledger.specs.Lists.{Each}
 use Rattle.ledger.specs.Ledgers.{Entry, Ledger, noEntry, isStored, entryAt, storedSoFar, expectOldest}
 use Rattle.ledger.specs.Balance.{Balanced}
-use Rattle.ledger.specs.Standing.{elementAt, Holds, Told}
+use Rattle.ledger.specs.Memory.{elementAt}
+use Rattle.ledger.specs.Standing.{Holds, Told}
 use Rattle.ledger.proofs.Lists.{each-index, tally-all}
 use Rattle.ledger.proofs.Places.{entry-at, held-here, held-there, held-once}
 

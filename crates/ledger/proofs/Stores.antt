@@ -15,7 +15,7 @@ use Rattle.words.proofs.Runs.{splice-length, splice-before, splice-after}
 use Rattle.words.proofs.Parts.{part-same, part-put, part-below, part-above}
 use Rattle.engine.specs.Areas.{placeIn}
 use Rattle.engine.specs.declared.areas.Area.{Area}
-use Rattle.ledger.specs.Standing.{areaEnd, Apart, KeptOutside, KeptWithin, elementAt}
+use Rattle.ledger.specs.Memory.{areaEnd, Apart, KeptOutside, KeptWithin, elementAt}
 
 pub kept-refl : (a : Area) (mem : List ℕ) → KeptOutside a mem mem
 kept-refl a mem = record { size = refl; outside = λ i o. refl }

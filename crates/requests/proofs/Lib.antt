@@ -1,5 +1,4 @@
 pub mod Books
-pub mod Places
 pub mod Pending
 pub mod Circles
 pub mod Holding

@@ -40,7 +40,7 @@ use Rattle.requests.specs.Standing.{elementOf, TxHolds, InStep, Leaves}
 use Rattle.requests.specs.Promises.{DedicatedTold, DedicatedLeaves, SharedTold, SharedLeaves, CancelTold, CancelLeaves}
 use Rattle.ledger.proofs.Lists.{length-those, those-apart}
 use Rattle.requests.proofs.Books.{balanced-request, balanced-cancel, ordered-request, ordered-cancel, outside}
-use Rattle.requests.proofs.Places.{store-beside, nothing-beside}
+use Rattle.ledger.proofs.Stores.{store-kept, kept-refl}
 use Rattle.requests.proofs.Circles.{circling-same, held-told}
 use Rattle.requests.proofs.Holding.{pending-told, element-each, put-dedicated, put-queue, put-fifo, clear-holds}
 use Rattle.requests.proofs.Steps.{told-by, room-in, few-in, leaves-all}
@@ -54,12 +54,11 @@ put-leaves : (l : Book) (s : State) (r : Record) (mem : List ℕ) → InStep l s
     → let next = splice mem (placeIn (txArea (s .regs)) buffer) (elementOf (s .regs) q) in
     TxHolds (s .regs) (noteRequest l buffer q) (requested s ring buffer) next → Leaves s mem (noteRequest l buffer q) (requested s ring buffer) next
 put-leaves l s r mem i buffer h q ring holds =
-    let room = room-in l s r mem i in
     record {
       agrees = record { holds = holds; balanced = balanced-request l (i .agrees .balanced) buffer q; ordered = ordered-request (s .regs) l (i .agrees .ordered) buffer q };
       state = record { regs = refl; fifo0 = refl; fifo1 = refl; newdata = refl };
       events = refl;
-      memory = store-beside (txArea (s .regs)) mem room buffer h (elementOf (s .regs) q) (element-each (s .regs) (length mem) q room);
+      memory = store-kept (txArea (s .regs)) mem (room-in l s r mem i .room) buffer h (elementOf (s .regs) q) (element-each (s .regs) q);
     }
 
 -- ---- dedicated
@@ -241,5 +240,5 @@ cancel-leaves l s r mem i buffer =
           };
           state = record { regs = refl; fifo0 = refl; fifo1 = refl; newdata = refl };
           events = refl;
-          memory = nothing-beside (txArea g) mem;
+          memory = kept-refl (txArea g) mem;
         }

@@ -19,9 +19,10 @@ use Rattle.sending.specs.Requesting.{RequestOutcome, dedicatedRule, sharedRule}
 use Rattle.sending.specs.Cancelling.{cancelRule}
 use Rattle.choosing.specs.Choosing.{choiceRule}
 use Rattle.choosing.specs.Reporting.{ReportOutcome, sentState, sentStatus, eventKeeper, reportRule}
+use Rattle.ledger.specs.Memory.{KeptWithin}
 use Rattle.requests.specs.Requests.{Request, Typed, Book, emptyBook, bookRequest, bookCancel, bookReport, pendingIn}
 use Rattle.requests.specs.Expected.{expectDedicated, expectShared, expectCancel, bestOf, nextOf, expectChoice, expectReport, eventFor}
-use Rattle.requests.specs.Standing.{TxHolds, Agrees, SameIn, InStep, Leaves, ReportLeaves, TxFit}
+use Rattle.requests.specs.Standing.{TxHolds, Agrees, InStep, Leaves, ReportLeaves, TxFit}
 
 -- ---- start, and steps elsewhere
 
@@ -32,7 +33,7 @@ StartAgrees = (g : Registers) (s : State) (mem : List ℕ) → s .pending ≡ 0 
 abbrev pub ElsewhereAgrees : Type 0
 ElsewhereAgrees =
     (g : Registers) (l : Book) (s next : State) (mem other : List ℕ)
-    → next .pending ≡ s .pending → next .shared ≡ s .shared → Roomy (txArea g) (length mem) → SameIn (txArea g) mem other
+    → next .pending ≡ s .pending → next .shared ≡ s .shared → Roomy (txArea g) (length mem) → KeptWithin (txArea g) mem other
     → Agrees g l s mem → Agrees g l next other
 
 -- ---- requests

@@ -1,9 +1,8 @@
 -- That a state and a memory hold exactly the book's pending requests.
-use Prim.Native.Nat.{ℕ, _+_, _*_, _%_, _^_, _≤_, _<_}
+use Prim.Native.Nat.{ℕ, _+_, _%_, _^_, _<_}
 use mathlib.Core.Path.{_≡_}
 use mathlib.Core.Bool.{true, false}
 use mathlib.Core.List.{List}
-use mathlib.Core.Logic.{_⊎_}
 use lib.ListN.{length, getD}
 use Rattle.words.specs.Bits.{bit, isSet}
 use Rattle.ring.specs.Rings.{Fit, noneHeld, placeAfter, putPlace, held}
@@ -11,12 +10,11 @@ use Rattle.ring.specs.declared.Ring.{Ring}
 use Rattle.frame.specs.Malformed.{WellFormed}
 use Rattle.registers.specs.declared.Registers.{Registers}
 use Rattle.element.specs.Elements.{txElement}
-use Rattle.element.specs.Promises.{Holds}
-use Rattle.engine.specs.Areas.{eventArea, dedicated, shared, txCount, isQueue, txArea, dataWords, placeIn}
+use Rattle.engine.specs.Areas.{eventArea, dedicated, shared, txCount, isQueue, txArea, dataWords}
 use Rattle.engine.specs.Fitness.{sharedRingSize, unfit}
-use Rattle.engine.specs.declared.areas.Area.{Area}
 use Rattle.engine.specs.declared.state.State.{State}
 use Rattle.engine.specs.declared.state.Record.{Record}
+use Rattle.ledger.specs.Memory.{KeptOutside, elementAt}
 use Rattle.ledger.specs.Lists.{tally, Each}
 use Rattle.requests.specs.Requests.{Request, Typed, Entry, Book, isBuffer, noEntry}
 use Rattle.requests.specs.Balance.{isShared, waiting, Balanced, Ordered}
@@ -30,7 +28,7 @@ pub record Stands (g : Registers) (mem : List ℕ) (e : Entry) : Type 0 where
   pub buffer : e .buffer < txCount g
   pub formed : WellFormed (e .request .frame) (length (e .request .bytes))
   pub typed : Typed (e .request)
-  pub words : Holds mem (placeIn (txArea g) (e .buffer)) (elementOf g (e .request))
+  pub words : elementAt (txArea g) (e .buffer) mem ≡ elementOf g (e .request)
 
 -- the shared FIFO's pending requests stand in the circle of its places in the order in which they were accepted,
 -- and how many it ever accepted tells the next one's place
@@ -54,22 +52,7 @@ pub record Agrees (g : Registers) (l : Book) (s : State) (mem : List ℕ) : Type
   pub balanced : Balanced l
   pub ordered : Ordered g l
 
--- ---- changes of the memory
-
--- word i is one of the area's
-pub record InArea (a : Area) (i : ℕ) : Type 0 where
-  pub from : a .start .0 ≤ i
-  pub below : i < a .start .0 + a .count * a .each
-
--- nothing changed in an area
-pub record SameIn (a : Area) (mem next : List ℕ) : Type 0 where
-  pub size : length next ≡ length mem
-  pub words : (i : ℕ) → InArea a i → getD next i 0 ≡ getD mem i 0
-
--- nothing changed but in an area
-pub record SameBeside (a : Area) (mem next : List ℕ) : Type 0 where
-  pub size : length next ≡ length mem
-  pub words : (i : ℕ) → (i < a .start .0) ⊎ (a .start .0 + a .count * a .each ≤ i) → getD next i 0 ≡ getD mem i 0
+-- ---- before and after a call
 
 -- of the state, what no call on the Tx buffers changes
 pub record RestSame (s next : State) : Type 0 where
@@ -77,8 +60,6 @@ pub record RestSame (s next : State) : Type 0 where
   pub fifo0 : next .fifo0 ≡ s .fifo0
   pub fifo1 : next .fifo1 ≡ s .fifo1
   pub newdata : next .newdata ≡ s .newdata
-
--- ---- before and after a call
 
 -- a fit state, and the book agrees with it
 pub record InStep (l : Book) (s : State) (r : Record) (mem : List ℕ) : Type 0 where
@@ -90,13 +71,13 @@ pub record Leaves (s : State) (mem : List ℕ) (l : Book) (next : State) (other 
   pub agrees : Agrees (s .regs) l next other
   pub state : RestSame s next
   pub events : next .events ≡ s .events
-  pub memory : SameBeside (txArea (s .regs)) mem other
+  pub memory : KeptOutside (txArea (s .regs)) mem other
 
 -- what a report leaves: an event may come besides
 pub record ReportLeaves (s : State) (mem : List ℕ) (l : Book) (next : State) (other : List ℕ) : Type 0 where
   pub agrees : Agrees (s .regs) l next other
   pub state : RestSame s next
-  pub memory : SameBeside (eventArea (s .regs)) mem other
+  pub memory : KeptOutside (eventArea (s .regs)) mem other
 
 -- the part of fitness that is the Tx buffers'
 pub record TxFit (s : State) : Type 0 where
