@@ -32,20 +32,21 @@ use Rattle.sending.proofs.Changes.{refused-leaves-all}
 use Rattle.receiving.proofs.Outcomes.{settled}
 use Rattle.receiving.proofs.Judgements.{all-three}
 use Rattle.ledger.specs.Ledgers.{noteArrival, noteRelease, expectSlot, entryAt}
-use Rattle.ledger.proofs.Arrivals.{arrival-slot, arrival-told, arrival-holds}
-use Rattle.ledger.proofs.Balances.{arrival-balanced, release-balanced}
-use Rattle.ledger.proofs.Releases.{release-test, release-holds, release-told}
-use Rattle.ledger.proofs.Seen.{seen-words}
+use Rattle.ledger.specs.Histories.{noted}
+use Rattle.ledger.specs.Standing.{RingAgrees}
+use Rattle.ledger.proofs.Arrivals.{arrival-told, arrival-agrees}
+use Rattle.ledger.proofs.Releases.{release-told, release-agrees}
+use Rattle.ledger.proofs.Seen.{words-told}
 use Rattle.ledger.proofs.Stores.{kept-refl}
 use Rattle.requests.specs.Requests
-use Rattle.requests.specs.Requests.{bookReport, noteSent, pendingIn}
+use Rattle.requests.specs.Requests.{noteSent, pendingIn}
 use Rattle.requests.specs.Expected.{expectReport, eventFor}
-use Rattle.requests.specs.Standing.{InStep, Leaves, ReportLeaves}
-use Rattle.requests.proofs.Reporting.{report-told, report-accepted, report-due, report-left}
+use Rattle.requests.specs.Standing.{InStep, Leaves, LeavesTx}
+use Rattle.requests.proofs.Reporting.{report-told, report-accepted, report-due, report-leaves}
 use Rattle.requests.proofs.Steps.{told-by}
-use Rattle.history.specs.Books.{Book, withSending, noted, noteReport}
+use Rattle.history.specs.Books.{Book, withSending, noteReport}
 use Rattle.history.specs.Expected.{eventRules, expectReadEvent, expectAcknowledgeEvent}
-use Rattle.history.proofs.Agreeing.{RingAgrees, Agreed, ring-elsewhere, requests-elsewhere, sending-agreed}
+use Rattle.history.proofs.Agreeing.{Agreed, ring-elsewhere, requests-elsewhere, sending-agreed}
 use Rattle.history.proofs.Elements.{settle-alike, headed-alone}
 
 module _ (began : List ℕ) (b : Book) (s : State) (r : Record) (mem : List ℕ) (fit : unfit s r (length mem) ≡ false) (h : Agreed (s .regs) began b s mem) where
@@ -60,10 +61,10 @@ module _ (began : List ℕ) (b : Book) (s : State) (r : Record) (mem : List ℕ)
 
   -- ---- a request, a cancel
 
-  pub leaves-kept : (l : Requests.Book) (next : State) (other : List ℕ) → Leaves s mem l next other → Agreed g began (withSending b (b .events) l) next other
-  leaves-kept l next other v =
+  pub leaves-kept : (l : Requests.Book) (next : State) (other : List ℕ) → LeavesTx s mem l next other → Agreed g began (withSending b (b .events) l) next other
+  leaves-kept l next other (v, events) =
       sending-agreed g began b s mem legal h other 4 (omega arith) (omega arith) (v .memory) next (v .state) (b .events) l
-      (rw (v .events) (ring-elsewhere g mem other legal 4 (omega arith) (v .memory) 3 (omega arith) (λ e. omega arith) (eventKeeper g) (b .events) (s .events) (h .events)))
+      (rw events (ring-elsewhere g mem other legal 4 (omega arith) (v .memory) 3 (omega arith) (λ e. omega arith) (eventKeeper g) (b .events) (s .events) (h .events)))
       (v .agrees)
 
   -- ---- a report
@@ -87,20 +88,15 @@ module _ (began : List ℕ) (b : Book) (s : State) (r : Record) (mem : List ℕ)
     event-held : RingAgrees (eventKeeper g) (eventArea g) (noteArrival (eventKeeper g) (b .events) ws (expectSlot (eventKeeper g) (b .events))) (kept-event .state .events) (kept-event .memory)
     event-held =
         let k = eventKeeper g in
-        let x = h .events in
         let t = sentStatus s r buffer in
         subst (λ (slot : Slot). RingAgrees k (eventArea g) (noteArrival k (b .events) ws slot) (kept-event .state .events) (kept-event .memory))
-        (arrival-slot k (eventArea g) (b .events) (s .events) mem (x .holds) t (x .told))
-        (record {
-          holds = arrival-holds k (eventArea g) (b .events) (s .events) mem (x .holds) t ws refl;
-          told = arrival-told k (eventArea g) (b .events) (s .events) mem (x .holds) t (x .told) ws;
-          balanced = arrival-balanced (b .events) (x .balanced) k ws (keepRule k (s .events) t .slot);
-        })
+        (arrival-told k (eventArea g) (b .events) (s .events) mem (h .events) t)
+        (arrival-agrees k (eventArea g) (b .events) (s .events) mem (h .events) t ws refl)
 
     abbrev due : Bool → ReportOutcome
     due t = pick t kept-event no-event
 
-    accepted : (t : Bool) → ReportLeaves s mem (bookReport l buffer (due t .says)) (due t .state) (due t .memory)
+    accepted : (t : Bool) → Leaves (eventArea g) s mem (noted l (λ x. noteSent l buffer) (due t .says)) (due t .state) (due t .memory)
         → Agreed g began (noted b (λ x. withSending b (pick t (noteArrival (eventKeeper g) (b .events) ws (expectSlot (eventKeeper g) (b .events))) (b .events)) (noteSent l buffer)) (due t .says)) (due t .state) (due t .memory)
     accepted true v =
         sending-agreed g began b s mem legal h (kept-event .memory) 3 (omega arith) (omega arith) (v .memory) (kept-event .state) (v .state) _ (noteSent l buffer) event-held (v .agrees)
@@ -119,7 +115,7 @@ module _ (began : List ℕ) (b : Book) (s : State) (r : Record) (mem : List ℕ)
             let due = report-due l s r mem in-step buffer passive time best in
             subst Left (sym due)
             (accepted (pendingIn l buffer .wish)
-            (subst (λ (o : ReportOutcome). ReportLeaves s mem (bookReport l buffer (o .says)) (o .state) (o .memory)) due (report-left l s r mem in-step buffer passive time)))
+            (subst (λ (o : ReportOutcome). Leaves (eventArea g) s mem (noted l (λ x. noteSent l buffer) (o .says)) (o .state) (o .memory)) due (report-leaves l s r mem in-step buffer passive time)))
         go (refuses n) e =
             let says = report-told l s r mem in-step buffer passive time ∙ e in
             let same = refused-leaves-all s r mem .report buffer passive time n says in
@@ -132,7 +128,7 @@ module _ (began : List ℕ) (b : Book) (s : State) (r : Record) (mem : List ℕ)
     event-ruled : first (refuseIf (noEvent s place) 23 ∷ refuseIf (eventFree s place) 29 ∷ []) ≡ eventRules g b place
     event-ruled =
         ap (λ (u : Bool). first (refuseIf (noEvent s place) 23 ∷ refuseIf (not u) 29 ∷ []))
-        (release-test (eventKeeper g) (eventArea g) (b .events) (s .events) mem (h .events .holds) place)
+        (release-told (eventKeeper g) (eventArea g) (b .events) (s .events) mem (h .events) place)
 
     pub acknowledge-event-told : acknowledgeEventRule s r (length mem) place .says ≡ expectAcknowledgeEvent g b place
     unfolding acknowledgeEventRule expectAcknowledgeEvent
@@ -149,17 +145,11 @@ module _ (began : List ℕ) (b : Book) (s : State) (r : Record) (mem : List ℕ)
         settled Acknowledged (first (refuseIf (unfit s r (length mem)) 20 ∷ refuseIf (noEvent s place) 23 ∷ refuseIf (eventFree s place) 29 ∷ []))
         (record { says = done; state = releasedEvents s place }) (λ n. record { says = refuses n; state = s }) (λ n. h)
         (λ e. let p = all-three (unfit s r (length mem)) (noEvent s place) (eventFree s place) 20 23 29 e in
-        let k = eventKeeper g in
-        let x = h .events in
         let here = not-false (held (s .events) (eventSize g) place) (p .2) in
         sending-agreed g began b s mem legal h mem 3 (omega arith) (omega arith) (kept-refl (eventArea g) mem) (releasedEvents s place)
         (record { regs = refl; fifo0 = refl; fifo1 = refl; newdata = refl })
         (noteRelease (b .events) place) (b .requests)
-        (record {
-          holds = release-holds k (eventArea g) (b .events) (s .events) mem (x .holds) place here;
-          told = release-told k (eventArea g) (b .events) (s .events) mem (x .holds) place here (x .told);
-          balanced = release-balanced (b .events) (x .balanced) place;
-        })
+        (release-agrees (eventKeeper g) (eventArea g) (b .events) (s .events) mem (h .events) place here)
         (requests-elsewhere g mem mem legal 3 (omega arith) (kept-refl (eventArea g) mem) (omega arith) (b .requests) s (releasedEvents s place) refl refl (h .requests)))
 
     pub read-event-told : readEventRule s r mem place ≡ expectReadEvent g b place
@@ -179,4 +169,4 @@ module _ (began : List ℕ) (b : Book) (s : State) (r : Record) (mem : List ℕ)
             let here = not-false (held (s .events) (eventSize g) place) (held-off (eventFree s place) 29 (q .0)) in
             ap answers
             (headed-alone mem (eventArea g) place (entryAt place (b .events .held) .words) (event-roomy g (length mem) legal) (leb-false (eventSize g) place (held-off (noEvent s place) 23 (p .0)))
-            (seen-words (eventKeeper g) (eventArea g) (b .events) (s .events) mem (h .events .holds) place here) eventHeaderIn)
+            (words-told (eventKeeper g) (eventArea g) (b .events) (s .events) mem (h .events) place here) eventHeaderIn)

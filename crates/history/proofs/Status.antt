@@ -29,17 +29,18 @@ use Rattle.engine.proofs.Sounds.{sound-of}
 use Rattle.receiving.specs.Fifos.{keeperOf}
 use Rattle.choosing.specs.Reporting.{eventKeeper}
 use Rattle.ledger.specs.Ledgers.{Ledger}
-use Rattle.ledger.proofs.Seen.{oldest-in-turn, seen-fill, seen-oldest}
+use Rattle.ledger.specs.Standing.{RingAgrees}
+use Rattle.ledger.proofs.Seen.{oldest-in-turn, oldest-told}
 use Rattle.ledger.specs.Lists.{tally, Each}
 use Rattle.requests.specs.Balance.{isShared}
 use Rattle.requests.specs.Requests
 use Rattle.requests.specs.Requests.{Entry, isBuffer}
-use Rattle.requests.specs.Standing.{Agrees, Stands}
+use Rattle.requests.specs.Standing.{TxAgrees, InTxBuffer}
 use Rattle.ledger.proofs.Lists.{length-those, each-map}
 use Rattle.requests.proofs.Steps.{told-by}
 use Rattle.history.specs.Books.{Book, fifoLedger}
 use Rattle.history.specs.Expected.{ringOf, sharedOf, expectStatus}
-use Rattle.history.proofs.Agreeing.{RingAgrees, Agreed}
+use Rattle.history.proofs.Agreeing.{Agreed}
 
 -- ---- how many are pending
 
@@ -85,19 +86,19 @@ bits-in w es bits (suc n) = go (isSet w n) refl (bits-in w es bits n)
 
 ring-told : (k : Keeper) (a : Area) (l : Ledger) (q : Ring) (mem : List ℕ) → RingAgrees k a l q mem → ringStatus q (k .size) ≡ ringOf k l
 ring-told k a l q mem x =
-    let f = seen-fill k a l q mem (x .holds) in
-    let o = seen-oldest k a l q mem (x .holds) (x .told) (x .balanced) in
-    let p = x .told in
+    let f = x .holds .fill in
+    let o = oldest-told k a l q mem x in
+    let p = x .put in
     cc
 
-module _ (g : Registers) (l : Requests.Book) (s : State) (mem : List ℕ) (h : Agrees g l s mem) where
+module _ (g : Registers) (l : Requests.Book) (s : State) (mem : List ℕ) (h : TxAgrees g l s mem) where
   waiting-asked : tally (isShared g) (l .pending) ≤ tally (isShared g) (l .requested)
   waiting-asked = omega (arith, h .balanced .whole (isShared g))
 
   pending-told : howMany (isSet (s .pending)) (txCount g) ≡ length (l .pending)
   pending-told =
       bits-in (s .pending) (l .pending) (h .holds .bits) (txCount g)
-      ∙ all-in (l .pending) (txCount g) (each-map (Stands g mem) (λ (e : Entry). e .buffer < txCount g) (l .pending) (λ e t. t .buffer) (h .holds .stands))
+      ∙ all-in (l .pending) (txCount g) (each-map (InTxBuffer g mem) (λ (e : Entry). e .buffer < txCount g) (l .pending) (λ e t. t .buffer) (h .holds .stands))
 
   -- in FIFO mode the requests tell the ring
   fifo-told : isQueue g ≡ false → ringStatus (s .shared) (shared g)
@@ -110,7 +111,7 @@ module _ (g : Registers) (l : Requests.Book) (s : State) (mem : List ℕ) (h : A
       let p = c .next in
       cc
 
-shared-told : (g : Registers) (b : Book) (s : State) (mem : List ℕ) → Agrees g (b .requests) s mem → ringStatus (s .shared) (sharedRingSize g) ≡ sharedOf g b
+shared-told : (g : Registers) (b : Book) (s : State) (mem : List ℕ) → TxAgrees g (b .requests) s mem → ringStatus (s .shared) (sharedRingSize g) ≡ sharedOf g b
 unfolding sharedRingSize placeAfter
 shared-told g b s mem h = go (isQueue g) refl
   where

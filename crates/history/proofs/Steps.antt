@@ -19,7 +19,8 @@ use Rattle.engine.specs.States.{emptyState}
 use Rattle.engine.specs.declared.state.State.{State}
 use Rattle.sending.specs.Cancelling.{cancelRule}
 use Rattle.sending.specs.Requesting.{dedicatedRule, sharedRule}
-use Rattle.requests.specs.Requests.{bookRequest, bookCancel}
+use Rattle.ledger.specs.Histories.{noted}
+use Rattle.requests.specs.Requests.{noteRequest, noteCancel}
 use Rattle.requests.proofs.Choosing.{choice-told}
 use Rattle.requests.proofs.Requesting.{dedicated-told, dedicated-leaves, shared-told, shared-leaves, cancel-told, cancel-leaves}
 use Rattle.requests.proofs.Reporting.{report-told}
@@ -81,15 +82,15 @@ module _ (began : List ℕ) (b : Book) (w : World) (fit : IsFit w) (h : Agreed (
   kept-here (releaseBuffer buffer) i = release-buffer-kept began b (w .state) (w .status) (w .memory) fit h buffer
   kept-here (requestDedicated buffer f d marker wish) i =
       let o = dedicatedRule (w .state) (w .status) (w .memory) buffer f d marker wish in
-      leaves-kept began b (w .state) (w .status) (w .memory) fit h (bookRequest (b .requests) (requestOf f d marker wish) (o .says)) (o .state) (o .memory)
+      leaves-kept began b (w .state) (w .status) (w .memory) fit h (noted (b .requests) (noteRequest (b .requests) (requestOf f d marker wish)) (o .says)) (o .state) (o .memory)
       (dedicated-leaves (b .requests) (w .state) (w .status) (w .memory) (in-step began b (w .state) (w .status) (w .memory) fit h) buffer (requestOf f d marker wish) i)
   kept-here (requestShared f d marker wish) i =
       let o = sharedRule (w .state) (w .status) (w .memory) f d marker wish in
-      leaves-kept began b (w .state) (w .status) (w .memory) fit h (bookRequest (b .requests) (requestOf f d marker wish) (o .says)) (o .state) (o .memory)
+      leaves-kept began b (w .state) (w .status) (w .memory) fit h (noted (b .requests) (noteRequest (b .requests) (requestOf f d marker wish)) (o .says)) (o .state) (o .memory)
       (shared-leaves (b .requests) (w .state) (w .status) (w .memory) (in-step began b (w .state) (w .status) (w .memory) fit h) (requestOf f d marker wish) i)
   kept-here (cancel buffer) i =
       let o = cancelRule (w .state) (w .status) (length (w .memory)) buffer in
-      leaves-kept began b (w .state) (w .status) (w .memory) fit h (bookCancel (b .requests) buffer (o .says)) (o .state) (w .memory)
+      leaves-kept began b (w .state) (w .status) (w .memory) fit h (noted (b .requests) (λ t. noteCancel (b .requests) buffer) (o .says)) (o .state) (w .memory)
       (cancel-leaves (b .requests) (w .state) (w .status) (w .memory) (in-step began b (w .state) (w .status) (w .memory) fit h) buffer)
   kept-here (askChoice passive out) i = h
   kept-here (reportSent buffer passive time) i = report-kept began b (w .state) (w .status) (w .memory) fit h buffer passive time

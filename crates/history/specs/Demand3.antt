@@ -7,7 +7,6 @@ use lib.ListN.{length, getD}
 use Rattle.words.specs.Best.{somebody}
 use Rattle.words.specs.Bits.{isSet}
 use Rattle.words.specs.Rules.{allowed, refused, isAllowed}
-use Rattle.ring.specs.declared.Ring.{Ring}
 use Rattle.registers.specs.declared.Registers.{Registers}
 use Rattle.layout.specs.Legal.{Has}
 use Rattle.layout.specs.Sections.{memoryWords}
@@ -17,18 +16,14 @@ use Rattle.filter.specs.Search.{listOf}
 use Rattle.engine.specs.Answers.{wrongOutput}
 use Rattle.engine.specs.Areas.{fifoArea, bufferArea, eventArea}
 use Rattle.engine.specs.States.{fifoRing}
-use Rattle.engine.specs.declared.areas.Area.{Area}
-use Rattle.engine.specs.declared.keeping.Keeper.{Keeper}
 use Rattle.receiving.specs.Fifos.{keeperOf}
 use Rattle.choosing.specs.Reporting.{eventKeeper}
 use Rattle.ledger.specs.Lists.{Each}
-use Rattle.ledger.specs.Ledgers.{Ledger}
-use Rattle.ledger.specs.Balance
 use Rattle.ledger.specs.Memory.{elementAt}
-use Rattle.ledger.specs.Standing.{Holds}
+use Rattle.ledger.specs.Standing.{RingAgrees}
 use Rattle.ledger.specs.Histories.{trace, after, book, foretold}
 use Rattle.requests.specs.Requests.{Typed}
-use Rattle.requests.specs.Standing.{Agrees}
+use Rattle.requests.specs.Standing.{TxAgrees}
 use Rattle.requests.specs.Expected.{nextOf}
 use Rattle.handler.specs.Calls.{World, Call, start, receive, readFifo, acknowledgeFifo, readBuffer, releaseBuffer, requestDedicated, requestShared, cancel, askChoice, reportSent, readEvent, acknowledgeEvent, clearFlags, status, refusal}
 use Rattle.handler.specs.Steps.{step}
@@ -75,18 +70,13 @@ bookOf r = book (note (r .regs)) emptyBook (trace step (began r) (r .calls))
 
 -- ---- what is true after every run
 
--- of a ring of elements: every one that arrived is exactly once released, held or lost, in order; those held stand in the memory word for word
-pub record RingKept (k : Keeper) (a : Area) (l : Ledger) (q : Ring) (mem : List ℕ) : Type 0 where
-  pub balanced : Balance.Balanced l
-  pub holds : Holds k a (l .held) q mem
-
 pub record NothingVanishes (g : Registers) (start : List ℕ) (b : Book) (w : World) : Type 0 where
-  -- every frame sent to a FIFO
-  pub fifos : (fifo : ℕ) → fifo ≤ 1 → RingKept (keeperOf g fifo) (fifoArea g fifo) (fifoLedger b fifo) (fifoRing (w .state) fifo) (w .memory)
-  -- every event due
-  pub events : RingKept (eventKeeper g) (eventArea g) (b .events) (w .state .events) (w .memory)
+  -- every frame sent to a FIFO is exactly once released, held or lost, in order; those held stand in the memory word for word
+  pub fifos : (fifo : ℕ) → fifo ≤ 1 → RingAgrees (keeperOf g fifo) (fifoArea g fifo) (fifoLedger b fifo) (fifoRing (w .state) fifo) (w .memory)
+  -- and every event due
+  pub events : RingAgrees (eventKeeper g) (eventArea g) (b .events) (w .state .events) (w .memory)
   -- every accepted request is exactly once pending, sent or cancelled; those pending are the pending bits and stand in their buffers word for word; a shared FIFO's are sent in order
-  pub requests : Agrees g (b .requests) (w .state) (w .memory)
+  pub requests : TxAgrees g (b .requests) (w .state) (w .memory)
   -- what an Rx buffer holds
   pub newdata : w .state .newdata ≡ b .newdata
   pub buffers : (n : ℕ) → isSet (b .newdata) n ≡ true → elementAt (bufferArea g) n (w .memory) ≡ lastIn n (b .buffered)

@@ -6,12 +6,12 @@ use mathlib.Core.Bool.{Bool}
 use mathlib.Core.List.{List, [], _∷_, _++_, append-assoc}
 use native.Mathlib.Omega.{arith}
 use lib.ListN.{length, drop, take-append-drop}
-use Rattle.engine.specs.declared.keeping.Keeper.{Keeper}
 use Rattle.engine.specs.declared.keeping.Slot.{Slot}
 use Rattle.engine.specs.declared.keeping.Slot.the-variants.{At, Lost}
 use Rattle.ledger.specs.Lists.{tally, Numbered}
-use Rattle.ledger.specs.Ledgers.{Ledger, emptyLedger, newEntry, givenWay, noteArrival, releaseOldest, noteRelease}
+use Rattle.ledger.specs.Ledgers.{Ledger, newEntry, givenWay, noteArrival, releaseOldest}
 use Rattle.ledger.specs.Balance.{Parted, numberOf, Balanced}
+use Rattle.ledger.specs.Promises.{EmptyBalances, ArrivalBalances, ReleaseBalances}
 use Rattle.ledger.proofs.Lists.{tally-append, tally-cut, length-snoc, numbered-snoc, numbered-once, rising-cut, rising-snoc, rising-wider}
 
 -- that each is in one part once follows from the counts
@@ -24,37 +24,35 @@ pub start-parted : {A : Type 0} (number : A → ℕ) → Parted number [] [] [] 
 unfolding tally
 start-parted number = parted number [] [] [] [] tt (λ q. refl)
 
-pub start-balanced : Balanced emptyLedger
-start-balanced = record { parted = start-parted numberOf; order = omega arith }
+pub empty-balances : EmptyBalances
+empty-balances = record { parted = start-parted numberOf; order = omega arith }
 
-module _ (l : Ledger) (b : Balanced l) where
-  module _ (k : Keeper) (ws : List ℕ) where
-    -- the new one is numbered next
-    next-numbered : (s : Slot) → Numbered numberOf 0 (l .arrived ++ newEntry l ws s ∷ [])
-    next-numbered s = numbered-snoc numberOf 0 (l .arrived) (newEntry l ws s) (b .parted .numbered) (omega arith)
+-- a new one is numbered next
+next-numbered : (l : Ledger) → Balanced l → (ws : List ℕ) (s : Slot) → Numbered numberOf 0 (l .arrived ++ newEntry l ws s ∷ [])
+next-numbered l b ws s = numbered-snoc numberOf 0 (l .arrived) (newEntry l ws s) (b .parted .numbered) (omega arith)
 
-    pub arrival-balanced : (s : Slot) → Balanced (noteArrival k l ws s)
-    unfolding noteArrival
-    arrival-balanced (At p) =
-        let n : ℕ = givenWay k l in
-        record {
-          parted = parted numberOf _ _ _ _ (next-numbered (At p)) (λ q. simp tally-append (omega (arith, b .parted .whole q, tally-cut q n (l .held))));
-          order =
-              rw (← append-assoc, length-snoc)
-              (rising-snoc numberOf 0 (l .released ++ drop n (l .held)) (newEntry l ws (At p)) (length (l .arrived))
-              (rising-cut numberOf 0 (l .released) (l .held) (length (l .arrived)) n (b .order)) (omega arith));
-        }
-    arrival-balanced Lost = record {
-      parted = parted numberOf _ _ _ _ (next-numbered Lost) (λ q. simp tally-append (omega (arith, b .parted .whole q)));
-      order = rw length-snoc (rising-wider numberOf 0 0 (l .released ++ l .held) (length (l .arrived)) (suc (length (l .arrived))) (omega arith) (omega arith) (b .order));
+pub arrival-balances : ArrivalBalances
+unfolding noteArrival
+arrival-balances l b k ws (At p) =
+    let n : ℕ = givenWay k l in
+    record {
+      parted = parted numberOf _ _ _ _ (next-numbered l b ws (At p)) (λ q. simp tally-append (omega (arith, b .parted .whole q, tally-cut q n (l .held))));
+      order =
+          rw (← append-assoc, length-snoc)
+          (rising-snoc numberOf 0 (l .released ++ drop n (l .held)) (newEntry l ws (At p)) (length (l .arrived))
+          (rising-cut numberOf 0 (l .released) (l .held) (length (l .arrived)) n (b .order)) (omega arith));
     }
+arrival-balances l b k ws Lost = record {
+  parted = parted numberOf _ _ _ _ (next-numbered l b ws Lost) (λ q. simp tally-append (omega (arith, b .parted .whole q)));
+  order = rw length-snoc (rising-wider numberOf 0 0 (l .released ++ l .held) (length (l .arrived)) (suc (length (l .arrived))) (omega arith) (omega arith) (b .order));
+}
 
-  oldest-balanced : (n : ℕ) → Balanced (releaseOldest l n)
-  unfolding releaseOldest
-  oldest-balanced n = record {
-    parted = parted numberOf _ _ _ _ (b .parted .numbered) (λ q. simp tally-append (omega (arith, b .parted .whole q, tally-cut q n (l .held))));
-    order = rw (append-assoc, take-append-drop) (b .order);
-  }
+oldest-balances : (l : Ledger) → Balanced l → (n : ℕ) → Balanced (releaseOldest l n)
+unfolding releaseOldest
+oldest-balances l b n = record {
+  parted = parted numberOf _ _ _ _ (b .parted .numbered) (λ q. simp tally-append (omega (arith, b .parted .whole q, tally-cut q n (l .held))));
+  order = rw (append-assoc, take-append-drop) (b .order);
+}
 
-  pub release-balanced : (p : ℕ) → Balanced (noteRelease l p)
-  release-balanced p = oldest-balanced _
+pub release-balances : ReleaseBalances
+release-balances l b p = oldest-balances l b _

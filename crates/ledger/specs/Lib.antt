@@ -3,4 +3,5 @@ pub mod Ledgers
 pub mod Balance
 pub mod Memory
 pub mod Standing
+pub mod Promises
 pub mod Histories

@@ -10,6 +10,7 @@ use Rattle.engine.specs.declared.keeping.Keeper.{Keeper}
 use Rattle.engine.specs.declared.keeping.Slot.the-variants.{At}
 use Rattle.ledger.specs.Memory.{areaEnd, elementAt}
 use Rattle.ledger.specs.Ledgers.{Entry, Ledger, noEntry, expectPut}
+use Rattle.ledger.specs.Balance.{Balanced}
 
 -- an entry is the i-th held: its slot is i places after the oldest, and its words stand there
 pub record Stands (k : Keeper) (a : Area) (q : Ring) (mem : List ℕ) (i : ℕ) (e : Entry) : Type 0 where
@@ -25,5 +26,11 @@ pub record Holds (k : Keeper) (a : Area) (es : List Entry) (q : Ring) (mem : Lis
   pub stands : (i : ℕ) → i < q .fill → Stands k a q mem i (getD es i noEntry)
 
 -- the ring's put place is the book's
-abbrev pub Told : Keeper → Ledger → Ring → Type 0
-Told k l q = putPlace q (k .size) ≡ expectPut k l
+abbrev pub PutAgrees : Keeper → Ledger → Ring → Type 0
+PutAgrees k l q = putPlace q (k .size) ≡ expectPut k l
+
+-- the ring, its elements and the book agree, and the book balances
+pub record RingAgrees (k : Keeper) (a : Area) (l : Ledger) (q : Ring) (mem : List ℕ) : Type 0 where
+  pub holds : Holds k a (l .held) q mem
+  pub put : PutAgrees k l q
+  pub balanced : Balanced l

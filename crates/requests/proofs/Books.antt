@@ -22,7 +22,7 @@ pub balanced-start : Balanced emptyBook
 balanced-start = start-parted numberOf
 
 module _ (l : Book) (b : Balanced l) where
-  pub balanced-request : (buffer : ℕ) (q : Request) → Balanced (noteRequest l buffer q)
+  pub balanced-request : (buffer : ℕ) (q : Request) → Balanced (noteRequest l q buffer)
   balanced-request buffer q =
       parted numberOf _ _ _ _ (numbered-snoc numberOf 0 (l .requested) (entryFor l buffer q) (b .numbered) (omega arith))
       (λ t. simp tally-append (omega (arith, b .whole t)))
@@ -49,7 +49,7 @@ outside g buffer n f e h = ap (leb (dedicated g)) (eqb-true (e .buffer) buffer h
     go false u n f = refl
 
 module _ (g : Registers) (l : Book) (o : Ordered g l) where
-  pub ordered-request : (buffer : ℕ) (q : Request) → Ordered g (noteRequest l buffer q)
+  pub ordered-request : (buffer : ℕ) (q : Request) → Ordered g (noteRequest l q buffer)
   ordered-request buffer q f = rw (those-append, those-one, length-snoc, ← append-assoc) (go (isShared g e))
     where
       e : Entry

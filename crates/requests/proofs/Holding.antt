@@ -27,7 +27,7 @@ use Rattle.ledger.specs.Memory.{KeptWithin}
 use Rattle.ledger.specs.Lists.{tally, those, others, Each}
 use Rattle.requests.specs.Requests.{Request, Typed, Entry, Book, emptyBook, isBuffer, entryFor, noteRequest, hasPending, noEntry, pendingIn}
 use Rattle.requests.specs.Balance.{isShared}
-use Rattle.requests.specs.Standing.{elementOf, Stands, Circling, TxHolds}
+use Rattle.requests.specs.Standing.{elementOf, InTxBuffer, Circling, TxHolds}
 use Rattle.ledger.proofs.Lists.{tally-append, tally-one, tally-none, those-append, those-one, length-those, each-first, each-snoc, each-map, each-unless, each-passes, each-those}
 use Rattle.ledger.proofs.Stores.{element-kept, store-there, store-other}
 use Rattle.requests.proofs.Pending.{told, put-bits, clear-bits, no-bits}
@@ -55,7 +55,7 @@ module _ (g : Registers) (l : Book) (s : State) (mem : List ℕ) (a : TxHolds g 
 
   -- no bit past the count
   pub none-past : (b : ℕ) → txCount g ≤ b → bit (s .pending) b ≡ 0
-  none-past b h = sym (a .bits b) ∙ tally-none (isBuffer b) (l .pending) (each-map (Stands g mem) _ (l .pending) (λ e t. ne-eqb (e .buffer) b (λ f. omega (arith, t .buffer))) (a .stands))
+  none-past b h = sym (a .bits b) ∙ tally-none (isBuffer b) (l .pending) (each-map (InTxBuffer g mem) _ (l .pending) (λ e t. ne-eqb (e .buffer) b (λ f. omega (arith, t .buffer))) (a .stands))
 
   -- a pending buffer has the header and the bytes of the request that the book has in it
   pub reads-back : (b : ℕ) → 0 < tally (isBuffer b) (l .pending)
@@ -63,7 +63,7 @@ module _ (g : Registers) (l : Book) (s : State) (mem : List ℕ) (a : TxHolds g 
   reads-back b h =
       let there : List Entry = those (isBuffer b) (l .pending) in
       let some : 0 < length there = omega (arith, h, length-those (isBuffer b) (l .pending)) in
-      let t = each-first (Stands g mem) noEntry there some (each-those (isBuffer b) (Stands g mem) (l .pending) (a .stands)) in
+      let t = each-first (InTxBuffer g mem) noEntry there some (each-those (isBuffer b) (InTxBuffer g mem) (l .pending) (a .stands)) in
       let here = each-first (λ x. isBuffer b x ≡ true) noEntry there some (each-passes (isBuffer b) (l .pending)) in
       let q = pendingIn l b in
       tx-back mem (placeIn (txArea g) b) (dataWords (txArea g)) (q .marker) (q .wish) (q .frame) (q .bytes)
@@ -76,7 +76,7 @@ module _ (g : Registers) (l : Book) (s : State) (mem : List ℕ) (a : TxHolds g 
       → Roomy (txArea g) (length mem) → KeptWithin (txArea g) mem other → TxHolds g l next other
   holds-elsewhere next other p e room same = record {
     bits = λ b. a .bits b ∙ sym (ap (λ (w : ℕ). bit w b) p);
-    stands = each-map (Stands g mem) (Stands g other) (l .pending)
+    stands = each-map (InTxBuffer g mem) (InTxBuffer g other) (l .pending)
         (λ x t. record {
           buffer = t .buffer;
           formed = t .formed;
@@ -91,10 +91,10 @@ module _ (g : Registers) (l : Book) (s : State) (mem : List ℕ) (a : TxHolds g 
   -- ---- a request comes
 
   module _ (room : Roomy (txArea g) (length mem)) (b : ℕ) (h : b < txCount g) (q : Request) (w : WellFormed (q .frame) (length (q .bytes))) (t : Typed q) (z : bit (s .pending) b ≡ 0) where
-    put-stands : Each (Stands g (splice mem (placeIn (txArea g) b) (elementOf g q))) (l .pending ++ entryFor l b q ∷ [])
+    put-stands : Each (InTxBuffer g (splice mem (placeIn (txArea g) b) (elementOf g q))) (l .pending ++ entryFor l b q ∷ [])
     put-stands =
-        each-snoc (Stands g (splice mem (placeIn (txArea g) b) (elementOf g q))) (l .pending) (entryFor l b q)
-        (each-unless (isBuffer b) (Stands g mem) (Stands g (splice mem (placeIn (txArea g) b) (elementOf g q))) (l .pending) (a .bits b ∙ z)
+        each-snoc (InTxBuffer g (splice mem (placeIn (txArea g) b) (elementOf g q))) (l .pending) (entryFor l b q)
+        (each-unless (isBuffer b) (InTxBuffer g mem) (InTxBuffer g (splice mem (placeIn (txArea g) b) (elementOf g q))) (l .pending) (a .bits b ∙ z)
         (λ x n v. record {
           buffer = v .buffer;
           formed = v .formed;
@@ -104,31 +104,31 @@ module _ (g : Registers) (l : Book) (s : State) (mem : List ℕ) (a : TxHolds g 
         (a .stands))
         (record { buffer = h; formed = w; typed = t; words = store-there (txArea g) mem (room .room) b h (elementOf g q) (element-each g q) })
 
-    put-holds : (ring : Ring) → (isQueue g ≡ false → Circling g (noteRequest l b q) ring) → (isQueue g ≡ true → ring ≡ noneHeld)
-        → TxHolds g (noteRequest l b q) (requested s ring b) (splice mem (placeIn (txArea g) b) (elementOf g q))
+    put-holds : (ring : Ring) → (isQueue g ≡ false → Circling g (noteRequest l q b) ring) → (isQueue g ≡ true → ring ≡ noneHeld)
+        → TxHolds g (noteRequest l q b) (requested s ring b) (splice mem (placeIn (txArea g) b) (elementOf g q))
     put-holds ring f e = record { bits = put-bits (l .pending) (s .pending) (a .bits) (entryFor l b q) z; stands = put-stands; fifo = f; queue = e }
 
     -- in a dedicated buffer
-    pub put-dedicated : b < dedicated g → TxHolds g (noteRequest l b q) (requested s (s .shared) b) (splice mem (placeIn (txArea g) b) (elementOf g q))
+    pub put-dedicated : b < dedicated g → TxHolds g (noteRequest l q b) (requested s (s .shared) b) (splice mem (placeIn (txArea g) b) (elementOf g q))
     put-dedicated k =
         let n : isShared g (entryFor l b q) ≡ false = lt-leb (dedicated g) b k in
         put-holds (s .shared)
-        (λ f. circling-same g l (s .shared) (a .fifo f) (noteRequest l b q)
+        (λ f. circling-same g l (s .shared) (a .fifo f) (noteRequest l q b)
         (those-append (isShared g) (l .pending) (entryFor l b q ∷ []) ∙ rw (those-one, n, append-nil))
         (tally-append (isShared g) (l .requested) (entryFor l b q ∷ []) ∙ rw (tally-one, n) (omega arith)))
         (a .queue)
 
     -- in a queue's buffer
-    pub put-queue : isQueue g ≡ true → TxHolds g (noteRequest l b q) (requested s (s .shared) b) (splice mem (placeIn (txArea g) b) (elementOf g q))
+    pub put-queue : isQueue g ≡ true → TxHolds g (noteRequest l q b) (requested s (s .shared) b) (splice mem (placeIn (txArea g) b) (elementOf g q))
     put-queue y = put-holds (s .shared) (λ f. absurd (true≢false (sym y ∙ f))) (a .queue)
 
     -- at a FIFO's put place
     pub put-fifo : isQueue g ≡ false → s .shared .fill < shared g → b ≡ dedicated g + putPlace (s .shared) (shared g)
-        → TxHolds g (noteRequest l b q) (requested s (pushed (s .shared)) b) (splice mem (placeIn (txArea g) b) (elementOf g q))
+        → TxHolds g (noteRequest l q b) (requested s (pushed (s .shared)) b) (splice mem (placeIn (txArea g) b) (elementOf g q))
     put-fifo n k at =
         let y : isShared g (entryFor l b q) ≡ true = le-leb (dedicated g) b (omega arith) in
         put-holds (pushed (s .shared))
-        (λ f. circling-pushed g l (s .shared) (a .fifo f) (noteRequest l b q) (entryFor l b q)
+        (λ f. circling-pushed g l (s .shared) (a .fifo f) (noteRequest l q b) (entryFor l b q)
         (those-append (isShared g) (l .pending) (entryFor l b q ∷ []) ∙ rw (those-one, y))
         (tally-append (isShared g) (l .requested) (entryFor l b q ∷ []) ∙ rw (tally-one, y) (omega arith))
         k at)
@@ -142,7 +142,7 @@ module _ (g : Registers) (l : Book) (s : State) (mem : List ℕ) (a : TxHolds g 
       → TxHolds g (record { requested = l .requested; pending = others (isBuffer b) (l .pending); sent = sent; cancelled = cancelled }) (withTx s ring (withoutBit 32 (s .pending) b) u v) mem
   clear-holds few b h ring sent cancelled u v f e = record {
     bits = clear-bits (l .pending) (s .pending) (a .bits) (λ k past. none-past k (omega arith)) b (omega arith);
-    stands = each-those (λ x. not (isBuffer b x)) (Stands g mem) (l .pending) (a .stands);
+    stands = each-those (λ x. not (isBuffer b x)) (InTxBuffer g mem) (l .pending) (a .stands);
     fifo = f;
     queue = e;
   }

@@ -30,19 +30,20 @@ use Rattle.choosing.specs.Buffers.{noBuffer, inSharedFifo, headerOf}
 use Rattle.choosing.specs.Choosing
 use Rattle.choosing.specs.Choosing.{choice}
 use Rattle.choosing.specs.Reporting.{ReportOutcome, isChosen, sentState, sentStatus, eventKeeper, reported, reportRule}
-use Rattle.requests.specs.Requests.{Request, Book, isBuffer, noteSent, bookReport, pendingIn}
+use Rattle.requests.specs.Requests.{Request, Book, isBuffer, noteSent, pendingIn}
 use Rattle.requests.specs.Balance.{isShared}
 use Rattle.requests.specs.Expected.{isCandidate, bestOf, expectReport, eventFor, nextOf, expectChoice}
-use Rattle.requests.specs.Standing.{Agrees, InStep, ReportLeaves}
-use Rattle.requests.specs.Promises.{ReportTold, ReportAccepted, ReportedIsChosen, reportOf, ReportDue, ReportLeft}
+use Rattle.requests.specs.Standing.{TxAgrees, InStep, Leaves}
+use Rattle.requests.specs.Promises.{ReportTold, ReportAccepted, ReportedIsChosen, reportOf, ReportDue, ReportLeaves}
 use Rattle.ledger.proofs.Lists.{those-apart}
 use Rattle.requests.proofs.Books.{balanced-sent, outside, ordered-sent-beside, ordered-sent-first}
-use Rattle.ledger.proofs.Arrivals.{arrival-kept}
+use Rattle.ledger.specs.Histories.{noted}
+use Rattle.ledger.proofs.Arrivals.{arrival-keeps}
 use Rattle.ledger.proofs.Sections.{own-apart}
 use Rattle.ledger.proofs.Stores.{kept-apart, kept-refl}
 use Rattle.requests.proofs.Circles.{circling-same, circling-released, rest-left, first-gone}
 use Rattle.requests.proofs.Holding.{clear-holds}
-use Rattle.requests.proofs.Steps.{elsewhere-agrees, told-by, rest-same, legal-in, room-in, few-in}
+use Rattle.requests.proofs.Steps.{elsewhere-agrees, told-by, legal-in, room-in, few-in, leaves-all}
 use Rattle.requests.proofs.Choosing.{candidate-told, header-told, choice-best, best-pending}
 
 -- ---- what is answered
@@ -145,11 +146,11 @@ module _ (l : Book) (s : State) (r : Record) (mem : List ℕ) (i : InStep l s r 
   candidate = candidate-told l s mem (i .agrees .holds) b ∙ best-wins (isCandidate (s .regs) l) (λ k. rankOf (pendingIn l k .frame)) (txCount (s .regs)) b best .one
 
   -- before the event
-  pub sent-agrees : Agrees (s .regs) (noteSent l b) (sentState s b) mem
+  pub sent-agrees : TxAgrees (s .regs) (noteSent l b) (sentState s b) mem
   sent-agrees = go (inSharedFifo s b) refl
     where
       go : (t : Bool) → inSharedFifo s b ≡ t
-          → Agrees (s .regs) (noteSent l b) (withTx s (pick t (released (s .shared) (shared (s .regs)) 1) (s .shared)) (withoutBit 32 (s .pending) b) (withBit (s .sent) b) (s .cancelled)) mem
+          → TxAgrees (s .regs) (noteSent l b) (withTx s (pick t (released (s .shared) (shared (s .regs)) 1) (s .shared)) (withoutBit 32 (s .pending) b) (withBit (s .sent) b) (s .cancelled)) mem
       go true e =
           let g = s .regs in
           let a = i .agrees in
@@ -178,13 +179,13 @@ module _ (l : Book) (s : State) (r : Record) (mem : List ℕ) (i : InStep l s r 
             ordered = ordered-sent-beside g l (a .ordered) b e;
           }
 
-pub report-left : ReportLeft
+pub report-leaves : ReportLeaves
 unfolding reportRule reportBy
-report-left l s r mem i b passive time =
+report-leaves l s r mem i b passive time =
     go (unfit s r (length mem)) (i .fit) (noBuffer s b) (isChosen (choice s mem) b) refl
   where
     Left : ReportOutcome → Type 0
-    Left o = ReportLeaves s mem (bookReport l b (o .says)) (o .state) (o .memory)
+    Left o = Leaves (eventArea (s .regs)) s mem (noted l (λ t. noteSent l b) (o .says)) (o .state) (o .memory)
 
     -- the request is sent, and then its event is kept or lost, or none is due
     accepted : bestOf (s .regs) l ≡ somebody b → (q : Request) (t : Bool)
@@ -202,7 +203,7 @@ report-left l s r mem i b passive time =
         let after = slotMemory mem (eventArea g) (eventFor g q passive time) (k .slot) in
         let legal = legal-in l s r mem i in
         let sound = sound-of s r (length mem) (i .fit) in
-        let kept = arrival-kept (eventKeeper g) (eventArea g) (s .events) mem (sentStatus s r b) refl (event-roomy g (length mem) legal .room) (sound .events) (eventFor g q passive time) refl in
+        let kept = arrival-keeps (eventKeeper g) (eventArea g) (s .events) mem refl (event-roomy g (length mem) legal .room) (sound .events) (sentStatus s r b) (eventFor g q passive time) refl in
         let same = kept-apart (txArea g) (eventArea g) mem after kept (own-apart g (length mem) legal 3 4 (omega arith) (omega arith) (λ e. omega arith)) in
         record {
           agrees = elsewhere-agrees g (noteSent l b) (sentState s b) (withEvents (sentState s b) (k .ring)) mem after refl refl (room-in l s r mem i) same (sent-agrees l s r mem i b best);
@@ -215,14 +216,11 @@ report-left l s r mem i b passive time =
       memory = kept-refl (eventArea (s .regs)) mem;
     }
 
-    refusal : ReportLeaves s mem l s mem
-    refusal = record { agrees = i .agrees; state = rest-same s; memory = kept-refl (eventArea (s .regs)) mem }
-
     go : (t : Bool) → t ≡ false → (u v : Bool) → isChosen (choice s mem) b ≡ v
         → Left (settle (first (refuseIf t 20 ∷ refuseIf u 23 ∷ refuseIf (not v) 28 ∷ [])) (reported s r mem b passive time) (λ n. record { says = refuses n; state = s; status = r; memory = mem }))
     go true e u v c = absurd (true≢false e)
-    go false e true v c = refusal
-    go false e false false c = refusal
+    go false e true v c = leaves-all l s r mem i (eventArea (s .regs))
+    go false e false false c = leaves-all l s r mem i (eventArea (s .regs))
     go false e false true c =
         let h = headerOf s mem b in
         let best = sym (choice-best l s mem (i .agrees .holds)) ∙ chosen-is (choice s mem) b c in

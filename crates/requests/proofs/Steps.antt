@@ -9,13 +9,14 @@ use Rattle.words.specs.Rules.{Ruling, allowed, refused, refuseIf, first, settle
 use Rattle.layout.specs.Sections.{memoryWords}
 use Rattle.layout.specs.Legal.{Legal}
 use Rattle.engine.specs.Areas.{txCount, txArea, Roomy}
+use Rattle.engine.specs.declared.areas.Area.{Area}
 use Rattle.engine.specs.declared.state.State.{State}
 use Rattle.engine.specs.declared.state.Record.{Record}
 use Rattle.engine.proofs.Rooms.{tx-roomy}
 use Rattle.engine.proofs.Sounds.{sound-of}
 use Rattle.ledger.proofs.Stores.{kept-refl}
 use Rattle.requests.specs.Requests.{Book}
-use Rattle.requests.specs.Standing.{RestSame, InStep, Leaves}
+use Rattle.requests.specs.Standing.{InStep, Leaves, LeavesTx}
 use Rattle.requests.specs.Promises.{StartAgrees, ElsewhereAgrees}
 use Rattle.requests.proofs.Books.{balanced-start, ordered-start}
 use Rattle.requests.proofs.Holding.{holds-start, holds-elsewhere}
@@ -40,9 +41,6 @@ told-by part o not false rs e = go (first rs)
     go allowed = refl
     go (refused n) = refl
 
-pub rest-same : (s : State) → RestSame s s
-rest-same s = record { regs = refl; fifo0 = refl; fifo1 = refl; newdata = refl }
-
 module _ (l : Book) (s : State) (r : Record) (mem : List ℕ) (i : InStep l s r mem) where
   pub legal-in : Legal memoryWords (s .regs) (length mem)
   legal-in = sound-of s r (length mem) (i .fit) .legal
@@ -54,5 +52,8 @@ module _ (l : Book) (s : State) (r : Record) (mem : List ℕ) (i : InStep l s r 
   few-in = legal-in .counted .together
 
   -- a call that is refused leaves all
-  pub leaves-all : Leaves s mem l s mem
-  leaves-all = record { agrees = i .agrees; state = rest-same s; events = refl; memory = kept-refl (txArea (s .regs)) mem }
+  pub leaves-all : (a : Area) → Leaves a s mem l s mem
+  leaves-all a = record { agrees = i .agrees; state = record { regs = refl; fifo0 = refl; fifo1 = refl; newdata = refl }; memory = kept-refl a mem }
+
+  pub leaves-tx : LeavesTx s mem l s mem
+  leaves-tx = (leaves-all (txArea (s .regs)), refl)

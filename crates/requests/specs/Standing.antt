@@ -10,8 +10,9 @@ use Rattle.ring.specs.declared.Ring.{Ring}
 use Rattle.frame.specs.Malformed.{WellFormed}
 use Rattle.registers.specs.declared.Registers.{Registers}
 use Rattle.element.specs.Elements.{txElement}
-use Rattle.engine.specs.Areas.{eventArea, dedicated, shared, txCount, isQueue, txArea, dataWords}
+use Rattle.engine.specs.Areas.{dedicated, shared, txCount, isQueue, txArea, dataWords}
 use Rattle.engine.specs.Fitness.{sharedRingSize, unfit}
+use Rattle.engine.specs.declared.areas.Area.{Area}
 use Rattle.engine.specs.declared.state.State.{State}
 use Rattle.engine.specs.declared.state.Record.{Record}
 use Rattle.ledger.specs.Memory.{KeptOutside, elementAt}
@@ -24,7 +25,7 @@ abbrev pub elementOf : Registers → Request → List ℕ
 elementOf g q = txElement (q .marker) (q .wish) (q .frame) (q .bytes) (dataWords (txArea g))
 
 -- a pending request stands in its buffer word for word
-pub record Stands (g : Registers) (mem : List ℕ) (e : Entry) : Type 0 where
+pub record InTxBuffer (g : Registers) (mem : List ℕ) (e : Entry) : Type 0 where
   pub buffer : e .buffer < txCount g
   pub formed : WellFormed (e .request .frame) (length (e .request .bytes))
   pub typed : Typed (e .request)
@@ -42,12 +43,12 @@ pub record Circling (g : Registers) (l : Book) (ring : Ring) : Type 0 where
 pub record TxHolds (g : Registers) (l : Book) (s : State) (mem : List ℕ) : Type 0 where
   -- bit b is how many pending requests buffer b has: one or none
   pub bits : (b : ℕ) → tally (isBuffer b) (l .pending) ≡ bit (s .pending) b
-  pub stands : Each (Stands g mem) (l .pending)
+  pub stands : Each (InTxBuffer g mem) (l .pending)
   pub fifo : isQueue g ≡ false → Circling g l (s .shared)
   pub queue : isQueue g ≡ true → s .shared ≡ noneHeld
 
 -- all that is kept of the transmit requests
-pub record Agrees (g : Registers) (l : Book) (s : State) (mem : List ℕ) : Type 0 where
+pub record TxAgrees (g : Registers) (l : Book) (s : State) (mem : List ℕ) : Type 0 where
   pub holds : TxHolds g l s mem
   pub balanced : Balanced l
   pub ordered : Ordered g l
@@ -64,20 +65,17 @@ pub record RestSame (s next : State) : Type 0 where
 -- a fit state, and the book agrees with it
 pub record InStep (l : Book) (s : State) (r : Record) (mem : List ℕ) : Type 0 where
   pub fit : unfit s r (length mem) ≡ false
-  pub agrees : Agrees (s .regs) l s mem
+  pub agrees : TxAgrees (s .regs) l s mem
 
--- what a request and a cancel leave: the next book agrees, and nothing else changed than the Tx buffers
-pub record Leaves (s : State) (mem : List ℕ) (l : Book) (next : State) (other : List ℕ) : Type 0 where
-  pub agrees : Agrees (s .regs) l next other
+-- what a call on the Tx buffers leaves: the next book agrees, and of the memory only an area changed
+pub record Leaves (a : Area) (s : State) (mem : List ℕ) (l : Book) (next : State) (other : List ℕ) : Type 0 where
+  pub agrees : TxAgrees (s .regs) l next other
   pub state : RestSame s next
-  pub events : next .events ≡ s .events
-  pub memory : KeptOutside (txArea (s .regs)) mem other
+  pub memory : KeptOutside a mem other
 
--- what a report leaves: an event may come besides
-pub record ReportLeaves (s : State) (mem : List ℕ) (l : Book) (next : State) (other : List ℕ) : Type 0 where
-  pub agrees : Agrees (s .regs) l next other
-  pub state : RestSame s next
-  pub memory : KeptOutside (eventArea (s .regs)) mem other
+-- what a request and a cancel leave: it is the area of the Tx buffers, and no event comes
+abbrev pub LeavesTx : State → List ℕ → Book → State → List ℕ → Type 0
+LeavesTx s mem l next other = Leaves (txArea (s .regs)) s mem l next other × (next .events ≡ s .events)
 
 -- the part of fitness that is the Tx buffers'
 pub record TxFit (s : State) : Type 0 where
