@@ -2,11 +2,9 @@
 -- Assumes nothing.
 use Prim.Native.Nat.{ℕ, zero, suc, _≤_, _<_}
 use mathlib.Core.Path.{_≡_, refl, sym, _∙_, subst}
-use mathlib.Core.Bool.{true}
 use mathlib.Core.List.{List}
 use native.Mathlib.Omega.{arith}
 use lib.ListN.{length}
-use Rattle.words.specs.Bits.{isSet}
 use Rattle.ring.specs.declared.Ring.{Ring}
 use Rattle.registers.specs.declared.Registers.{Registers}
 use Rattle.layout.specs.Legal.{Legal}
@@ -20,7 +18,7 @@ use Rattle.engine.proofs.Rooms.{buffer-roomy, tx-roomy}
 use Rattle.receiving.specs.Fifos.{keeperOf}
 use Rattle.choosing.specs.Reporting.{eventKeeper}
 use Rattle.ledger.specs.Ledgers.{Ledger}
-use Rattle.ledger.specs.Memory.{KeptOutside, elementAt}
+use Rattle.ledger.specs.Memory.{KeptOutside}
 use Rattle.ledger.specs.Standing.{RingAgrees}
 use Rattle.ledger.proofs.Holding.{apart-agrees}
 use Rattle.ledger.proofs.Sections.{own, own-fifo, own-apart}
@@ -28,24 +26,9 @@ use Rattle.ledger.proofs.Stores.{kept-apart, element-kept}
 use Rattle.requests.specs.Requests
 use Rattle.requests.specs.Standing.{TxAgrees, RestSame}
 use Rattle.requests.proofs.Steps.{elsewhere-agrees}
-use Rattle.history.specs.Books.{Book, InRxBuffer, fifoLedger, withFifoLedger, withSending, withBuffers, lastIn}
-use Rattle.history.proofs.Sections.{Rest, rest-kept}
-
--- each Rx buffer that has new data holds what was last stored in it
-pub record BuffersAgree (g : Registers) (newdata : ℕ) (buffered : List InRxBuffer) (mem : List ℕ) : Type 0 where
-  pub inside : (n : ℕ) → isSet newdata n ≡ true → n < g .buffers
-  pub words : (n : ℕ) → isSet newdata n ≡ true → elementAt (bufferArea g) n mem ≡ lastIn n buffered
-
--- all parts of the book
-pub record Agreed (g : Registers) (began : List ℕ) (b : Book) (s : State) (mem : List ℕ) : Type 0 where
-  pub regs : s .regs ≡ g
-  pub size : length mem ≡ length began
-  pub fifos : (fifo : ℕ) → fifo ≤ 1 → RingAgrees (keeperOf g fifo) (fifoArea g fifo) (fifoLedger b fifo) (fifoRing s fifo) mem
-  pub events : RingAgrees (eventKeeper g) (eventArea g) (b .events) (s .events) mem
-  pub requests : TxAgrees g (b .requests) s mem
-  pub newdata : s .newdata ≡ b .newdata
-  pub buffers : BuffersAgree g (b .newdata) (b .buffered) mem
-  pub rest : Rest g began mem
+use Rattle.history.specs.Books.{Book, InRxBuffer, fifoLedger, withFifoLedger, withSending, withBuffers}
+use Rattle.history.specs.Standing.{BuffersAgree, BookAgrees}
+use Rattle.history.proofs.Sections.{rest-kept}
 
 -- ---- a change in section 2 + i leaves the others
 
@@ -74,10 +57,10 @@ module _ (g : Registers) (mem next : List ℕ) (legal : Legal memoryWords g (len
 
 -- ---- one part changes
 
-module _ (g : Registers) (began : List ℕ) (b : Book) (s : State) (mem : List ℕ) (legal : Legal memoryWords g (length mem)) (h : Agreed g began b s mem) (next : List ℕ) where
+module _ (g : Registers) (began : List ℕ) (b : Book) (s : State) (mem : List ℕ) (legal : Legal memoryWords g (length mem)) (h : BookAgrees g began b s mem) (next : List ℕ) where
   -- FIFO 0 or 1
   pub fifo-agreed : (fifo : ℕ) → fifo ≤ 1 → (l : Ledger) (q : Ring) → KeptOutside (fifoArea g fifo) mem next
-      → RingAgrees (keeperOf g fifo) (fifoArea g fifo) l q next → Agreed g began (withFifoLedger b fifo l) (withFifo s fifo q) next
+      → RingAgrees (keeperOf g fifo) (fifoArea g fifo) l q next → BookAgrees g began (withFifoLedger b fifo l) (withFifo s fifo q) next
   unfolding fifoLedger withFifoLedger fifoRing withFifo
   fifo-agreed fifo m l q outside r =
       let kept = subst (λ (a : Area). KeptOutside a mem next) (sym (own-fifo g fifo m)) outside in
@@ -104,7 +87,7 @@ module _ (g : Registers) (began : List ℕ) (b : Book) (s : State) (mem : List �
 
   -- the Rx buffers
   pub buffers-agreed : (newdata : ℕ) (buffered : List InRxBuffer) → KeptOutside (bufferArea g) mem next
-      → BuffersAgree g newdata buffered next → Agreed g began (withBuffers b newdata buffered) (withNewData s newdata) next
+      → BuffersAgree g newdata buffered next → BookAgrees g began (withBuffers b newdata buffered) (withNewData s newdata) next
   unfolding fifoLedger fifoRing
   buffers-agreed newdata buffered kept r = record {
     regs = h .regs;
@@ -119,7 +102,7 @@ module _ (g : Registers) (began : List ℕ) (b : Book) (s : State) (mem : List �
 
   -- the event list or the Tx buffers, sections 5 and 6
   pub sending-agreed : (i : ℕ) → i < 5 → 2 < i → KeptOutside (own g i) mem next → (after : State) → RestSame s after → (events : Ledger) (requests : Requests.Book)
-      → RingAgrees (eventKeeper g) (eventArea g) events (after .events) next → TxAgrees g requests after next → Agreed g began (withSending b events requests) after next
+      → RingAgrees (eventKeeper g) (eventArea g) events (after .events) next → TxAgrees g requests after next → BookAgrees g began (withSending b events requests) after next
   unfolding fifoLedger fifoRing
   sending-agreed i own-i m kept after same events requests r t = record {
     regs = same .regs ∙ h .regs;

@@ -17,7 +17,7 @@ use Rattle.engine.specs.Areas.{bufferArea, placeIn, Roomy}
 use Rattle.ledger.specs.Memory.{elementAt}
 use Rattle.ledger.proofs.Stores.{store-there, store-other}
 use Rattle.history.specs.Books.{InRxBuffer, lastIn}
-use Rattle.history.proofs.Agreeing.{BuffersAgree}
+use Rattle.history.specs.Standing.{BuffersAgree}
 
 module _ (g : Registers) (newdata : ℕ) (buffered : List InRxBuffer) (mem : List ℕ) (h : BuffersAgree g newdata buffered mem) where
   -- one is stored

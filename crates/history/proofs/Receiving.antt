@@ -56,7 +56,8 @@ use Rattle.ledger.proofs.Stores.{kept-refl, store-kept}
 use Rattle.requests.proofs.Steps.{told-by}
 use Rattle.history.specs.Books.{Book, fifoLedger, withFifoLedger, withBuffers, lastIn, noteFate}
 use Rattle.history.specs.Expected.{fateOf, expectReceive, readOf, fifoRules, bufferRules, expectReadFifo, expectAcknowledge, expectReadBuffer, expectRelease}
-use Rattle.history.proofs.Agreeing.{Agreed, fifo-agreed, buffers-agreed}
+use Rattle.history.specs.Standing.{BookAgrees}
+use Rattle.history.proofs.Agreeing.{fifo-agreed, buffers-agreed}
 use Rattle.history.proofs.Buffers.{put-buffer, free-buffer}
 use Rattle.history.proofs.Elements.{settle-alike, read-alone}
 use Rattle.history.proofs.Sections.{lists-stay}
@@ -65,7 +66,7 @@ use Rattle.history.proofs.Sections.{lists-stay}
 each-long : (m : Matched) (f : Frame) (time : ℕ) (d : List ℕ) (a : Area) (words : ℕ) → Roomy a words → length (rxElement m f time d (dataWords a)) ≡ a .each
 each-long m f time d a words room = omega (arith, element-length (word0 f) (rxWord1 m f time) d (dataWords a), room .header)
 
-module _ (began : List ℕ) (b : Book) (s : State) (r : Record) (mem : List ℕ) (fit : unfit s r (length mem) ≡ false) (h : Agreed (s .regs) began b s mem) where
+module _ (began : List ℕ) (b : Book) (s : State) (r : Record) (mem : List ℕ) (fit : unfit s r (length mem) ≡ false) (h : BookAgrees (s .regs) began b s mem) where
   abbrev g : Registers
   g = s .regs
 
@@ -76,7 +77,7 @@ module _ (began : List ℕ) (b : Book) (s : State) (r : Record) (mem : List ℕ)
 
   module _ (f : Frame) (d : List ℕ) (time : ℕ) where
     abbrev Left : ReceiveOutcome → Type 0
-    Left o = Agreed g began (noted b (noteFate g b f d time) (o .says)) (o .state) (o .memory)
+    Left o = BookAgrees g began (noted b (noteFate g b f d time) (o .says)) (o .state) (o .memory)
 
     fate-noted : (fifo : ℕ) (m : Matched) (slot : Slot) → withFifoLedger b fifo (noteArrival (keeperOf g fifo) (fifoLedger b fifo) (rxElement m f time d (dataWords (fifoArea g fifo))) slot)
         ≡ noteFate g b f d time (slotSays fifo m slot)
@@ -94,7 +95,7 @@ module _ (began : List ℕ) (b : Book) (s : State) (r : Record) (mem : List ℕ)
         let ledger = fifoLedger b fifo in
         let q = fifoRing s fifo in
         let slot = keepRule k q r .slot in
-        subst (λ (c : Book). Agreed g began c (intoFifo s r mem f d time fifo priority m .state) (slotMemory mem a ws slot)) (fate-noted fifo m slot)
+        subst (λ (c : Book). BookAgrees g began c (intoFifo s r mem f d time fifo priority m .state) (slotMemory mem a ws slot)) (fate-noted fifo m slot)
         (fifo-agreed g began b s mem legal h (slotMemory mem a ws slot) fifo l (noteArrival k ledger ws slot) (keepRule k q r .ring)
         (arrival-keeps k a q mem (x .holds .places) (x .holds .room) (x .holds .ring) r ws w)
         (arrival-agrees k a ledger q mem x r ws w))
@@ -156,7 +157,7 @@ module _ (began : List ℕ) (b : Book) (s : State) (r : Record) (mem : List ℕ)
         ∙ ap (λ (v : Ruling ℕ). settle v done refuses) (place-ruled [])
 
     abbrev Acknowledged : ReleaseOutcome → Type 0
-    Acknowledged o = Agreed g began (noted b (λ t. withFifoLedger b fifo (noteRelease (fifoLedger b fifo) place)) (o .says)) (o .state) mem
+    Acknowledged o = BookAgrees g began (noted b (λ t. withFifoLedger b fifo (noteRelease (fifoLedger b fifo) place)) (o .says)) (o .state) mem
 
     pub acknowledge-kept : Acknowledged (acknowledgeRule s r (length mem) fifo place)
     acknowledge-kept =
@@ -195,7 +196,7 @@ module _ (began : List ℕ) (b : Book) (s : State) (r : Record) (mem : List ℕ)
         ∙ ap (λ (v : Ruling ℕ). settle v done refuses) (buffer-ruled [])
 
     abbrev Released : ReleaseOutcome → Type 0
-    Released o = Agreed g began (noted b (λ t. withBuffers b (withoutBit 64 (b .newdata) buffer) (b .buffered)) (o .says)) (o .state) mem
+    Released o = BookAgrees g began (noted b (λ t. withBuffers b (withoutBit 64 (b .newdata) buffer) (b .buffered)) (o .says)) (o .state) mem
 
     pub release-buffer-kept : Released (releaseRule s r (length mem) buffer)
     release-buffer-kept =

@@ -35,12 +35,12 @@ use Rattle.handler.specs.Steps.{step}
 use Rattle.history.specs.Books.{emptyBook, fifoLedger, note}
 use Rattle.history.specs.Demand3.{InRun, Run, began, now, bookOf, Demand3, Answers, FiltersSuffice, SentInForm}
 use Rattle.history.specs.Expected.{fateOf, expectReceive, expect}
-use Rattle.history.proofs.Agreeing.{Agreed}
+use Rattle.history.specs.Standing.{BookAgrees}
 use Rattle.history.proofs.Steps.{Standing, told, kept}
 
 -- ---- the start
 
-agreed-start : (g : Registers) (mem : List ℕ) → Legal memoryWords g (length mem) → Agreed g mem emptyBook (emptyState g) mem
+agreed-start : (g : Registers) (mem : List ℕ) → Legal memoryWords g (length mem) → BookAgrees g mem emptyBook (emptyState g) mem
 unfolding fifoLedger fifoRing
 agreed-start g mem legal = record {
   regs = refl;
@@ -86,16 +86,7 @@ module _ (r : Run) where
       emptyBook (began r) (r .calls) (r .given) (standing-start (r .before) (r .regs) (r .accepted))
 
 pub demand3 : Demand3
-demand3 r =
-    let a = standing r .agreed in
-    record {
-      fifos = a .fifos;
-      events = a .events;
-      requests = a .requests;
-      newdata = a .newdata;
-      buffers = a .buffers .words;
-      rest = a .rest;
-    }
+demand3 r = standing r .agreed
 
 pub every-answer : Answers
 every-answer r =

@@ -8,23 +8,19 @@ use mathlib.Core.Logic.{_⊎_, inl, inr}
 use native.Mathlib.Omega.{arith}
 use borrow.Author.Tests.{ltb-true, ltb-false, leb-true, leb-false}
 use lib.Dec.{ltb, leb}
-use lib.ListN.{getD}
 use Rattle.registers.specs.declared.Registers.{Registers}
-use Rattle.layout.specs.Legal.{Has, Legal}
+use Rattle.layout.specs.Legal.{Legal}
 use Rattle.layout.specs.Sections.{memoryWords}
 use Rattle.layout.proofs.Table.{within-has}
 use Rattle.filter.specs.Promises.{SameSection}
 use Rattle.filter.specs.Search.{listOf}
 use Rattle.ledger.specs.Memory.{areaEnd, KeptOutside}
 use Rattle.ledger.proofs.Sections.{own, own-start, own-size}
+use Rattle.history.specs.Standing.{RestKept}
 
--- every word that is not of the engine's own sections is as it was at the start
-abbrev pub Rest : Registers → List ℕ → List ℕ → Type 0
-Rest g began mem = (k : ℕ) → ((i : ℕ) → 2 ≤ i → i < 7 → Has g i k → ⊥) → getD mem k 0 ≡ getD began k 0
-
-module _ (g : Registers) (began mem : List ℕ) (rest : Rest g began mem) where
+module _ (g : Registers) (began mem : List ℕ) (rest : RestKept g began mem) where
   -- a change in an own section leaves the rest
-  pub rest-kept : (i : ℕ) → i < 5 → (next : List ℕ) → KeptOutside (own g i) mem next → Rest g began next
+  pub rest-kept : (i : ℕ) → i < 5 → (next : List ℕ) → KeptOutside (own g i) mem next → RestKept g began next
   rest-kept i h next kept k none-has = kept .outside k (go (ltb k (own g i .start .0)) (leb (areaEnd (own g i)) k) refl refl) ∙ rest k none-has
     where
       go : (t u : Bool) → ltb k (own g i .start .0) ≡ t → leb (areaEnd (own g i)) k ≡ u → (k < own g i .start .0) ⊎ (areaEnd (own g i) ≤ k)

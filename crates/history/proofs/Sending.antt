@@ -46,10 +46,11 @@ use Rattle.requests.proofs.Reporting.{report-told, report-accepted, report-due,
 use Rattle.requests.proofs.Steps.{told-by}
 use Rattle.history.specs.Books.{Book, withSending, noteReport}
 use Rattle.history.specs.Expected.{eventRules, expectReadEvent, expectAcknowledgeEvent}
-use Rattle.history.proofs.Agreeing.{Agreed, ring-elsewhere, requests-elsewhere, sending-agreed}
+use Rattle.history.specs.Standing.{BookAgrees}
+use Rattle.history.proofs.Agreeing.{ring-elsewhere, requests-elsewhere, sending-agreed}
 use Rattle.history.proofs.Elements.{settle-alike, headed-alone}
 
-module _ (began : List ℕ) (b : Book) (s : State) (r : Record) (mem : List ℕ) (fit : unfit s r (length mem) ≡ false) (h : Agreed (s .regs) began b s mem) where
+module _ (began : List ℕ) (b : Book) (s : State) (r : Record) (mem : List ℕ) (fit : unfit s r (length mem) ≡ false) (h : BookAgrees (s .regs) began b s mem) where
   abbrev g : Registers
   g = s .regs
 
@@ -61,7 +62,7 @@ module _ (began : List ℕ) (b : Book) (s : State) (r : Record) (mem : List ℕ)
 
   -- ---- a request, a cancel
 
-  pub leaves-kept : (l : Requests.Book) (next : State) (other : List ℕ) → LeavesTx s mem l next other → Agreed g began (withSending b (b .events) l) next other
+  pub leaves-kept : (l : Requests.Book) (next : State) (other : List ℕ) → LeavesTx s mem l next other → BookAgrees g began (withSending b (b .events) l) next other
   leaves-kept l next other (v, events) =
       sending-agreed g began b s mem legal h other 4 (omega arith) (omega arith) (v .memory) next (v .state) (b .events) l
       (rw events (ring-elsewhere g mem other legal 4 (omega arith) (v .memory) 3 (omega arith) (λ e. omega arith) (eventKeeper g) (b .events) (s .events) (h .events)))
@@ -97,14 +98,14 @@ module _ (began : List ℕ) (b : Book) (s : State) (r : Record) (mem : List ℕ)
     due t = pick t kept-event no-event
 
     accepted : (t : Bool) → Leaves (eventArea g) s mem (noted l (λ x. noteSent l buffer) (due t .says)) (due t .state) (due t .memory)
-        → Agreed g began (noted b (λ x. withSending b (pick t (noteArrival (eventKeeper g) (b .events) ws (expectSlot (eventKeeper g) (b .events))) (b .events)) (noteSent l buffer)) (due t .says)) (due t .state) (due t .memory)
+        → BookAgrees g began (noted b (λ x. withSending b (pick t (noteArrival (eventKeeper g) (b .events) ws (expectSlot (eventKeeper g) (b .events))) (b .events)) (noteSent l buffer)) (due t .says)) (due t .state) (due t .memory)
     accepted true v =
         sending-agreed g began b s mem legal h (kept-event .memory) 3 (omega arith) (omega arith) (v .memory) (kept-event .state) (v .state) _ (noteSent l buffer) event-held (v .agrees)
     accepted false v =
         sending-agreed g began b s mem legal h mem 3 (omega arith) (omega arith) (v .memory) (no-event .state) (v .state) (b .events) (noteSent l buffer) (h .events) (v .agrees)
 
     abbrev Left : ReportOutcome → Type 0
-    Left o = Agreed g began (noted b (λ t. noteReport g b buffer passive time) (o .says)) (o .state) (o .memory)
+    Left o = BookAgrees g began (noted b (λ t. noteReport g b buffer passive time) (o .says)) (o .state) (o .memory)
 
     pub report-kept : Left (reportRule s r mem buffer passive time)
     report-kept = go (expectReport g l buffer) refl
@@ -119,7 +120,7 @@ module _ (began : List ℕ) (b : Book) (s : State) (r : Record) (mem : List ℕ)
         go (refuses n) e =
             let says = report-told l s r mem in-step buffer passive time ∙ e in
             let same = refused-leaves-all s r mem .report buffer passive time n says in
-            subst (λ (x : Says (Unit {0})). Agreed g began (noted b (λ t. noteReport g b buffer passive time) x) (reportRule s r mem buffer passive time .state) (reportRule s r mem buffer passive time .memory)) (sym says)
+            subst (λ (x : Says (Unit {0})). BookAgrees g began (noted b (λ t. noteReport g b buffer passive time) x) (reportRule s r mem buffer passive time .state) (reportRule s r mem buffer passive time .memory)) (sym says)
             (rw (same .0, same .2) h)
 
   -- ---- an event
@@ -137,7 +138,7 @@ module _ (began : List ℕ) (b : Book) (s : State) (r : Record) (mem : List ℕ)
         ∙ ap (λ (v : Ruling ℕ). settle v done refuses) event-ruled
 
     abbrev Acknowledged : AcknowledgeOutcome → Type 0
-    Acknowledged o = Agreed g began (noted b (λ t. withSending b (noteRelease (b .events) place) (b .requests)) (o .says)) (o .state) mem
+    Acknowledged o = BookAgrees g began (noted b (λ t. withSending b (noteRelease (b .events) place) (b .requests)) (o .says)) (o .state) mem
 
     pub acknowledge-event-kept : Acknowledged (acknowledgeEventRule s r (length mem) place)
     unfolding acknowledgeEventRule

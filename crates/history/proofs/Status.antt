@@ -30,7 +30,8 @@ use Rattle.receiving.specs.Fifos.{keeperOf}
 use Rattle.choosing.specs.Reporting.{eventKeeper}
 use Rattle.ledger.specs.Ledgers.{Ledger}
 use Rattle.ledger.specs.Standing.{RingAgrees}
-use Rattle.ledger.proofs.Seen.{oldest-in-turn, oldest-told}
+use Rattle.ledger.proofs.Seen.{oldest-told}
+use Rattle.ledger.proofs.Turns.{oldest-in-turn}
 use Rattle.ledger.specs.Lists.{tally, Each}
 use Rattle.requests.specs.Balance.{isShared}
 use Rattle.requests.specs.Requests
@@ -40,7 +41,7 @@ use Rattle.ledger.proofs.Lists.{length-those, each-map}
 use Rattle.requests.proofs.Steps.{told-by}
 use Rattle.history.specs.Books.{Book, fifoLedger}
 use Rattle.history.specs.Expected.{ringOf, sharedOf, expectStatus}
-use Rattle.history.proofs.Agreeing.{Agreed}
+use Rattle.history.specs.Standing.{BookAgrees}
 
 -- ---- how many are pending
 
@@ -128,7 +129,7 @@ shared-told g b s mem h = go (isQueue g) refl
         none = refl
     go false e = fifo-told g (b .requests) s mem h e
 
-pub status-told : (began : List ℕ) (b : Book) (s : State) (r : Record) (mem : List ℕ) → unfit s r (length mem) ≡ false → Agreed (s .regs) began b s mem
+pub status-told : (began : List ℕ) (b : Book) (s : State) (r : Record) (mem : List ℕ) → unfit s r (length mem) ≡ false → BookAgrees (s .regs) began b s mem
     → statusRule s r (length mem) ≡ answers (expectStatus (s .regs) b)
 unfolding statusRule fifoRing fifoLedger
 status-told began b s r mem fit h =

@@ -1,10 +1,10 @@
 -- A new element: the book tells its slot, and the ring holds what the book says of it.
 -- Assumes nothing.
-use Prim.Native.Nat.{ℕ, _+_, _-_, _%_, _≤_, _<_}
+use Prim.Native.Nat.{ℕ, _+_, _-_, _≤_, _<_}
 use mathlib.Core.Path.{_≡_, refl, sym, ap, _∙_, subst}
 use mathlib.Core.Bool.{Bool, true, false, not, _&&_, _||_, or-true, and-false}
 use mathlib.Core.List.{List, [], _∷_, _++_}
-use native.Mathlib.Nat.{mod-add-mod, add-zero, add-comm}
+use native.Mathlib.Nat.{add-zero, add-comm}
 use native.Mathlib.Omega.{arith}
 use lib.Dec.{eqb, ltb}
 use lib.ListN.{length, drop}
@@ -29,6 +29,7 @@ use Rattle.ledger.specs.Standing.{Holds, PutAgrees}
 use Rattle.ledger.specs.Promises.{ArrivalTold, ArrivalAgrees, ArrivalKeeps}
 use Rattle.ledger.proofs.Balances.{arrival-balances}
 use Rattle.ledger.proofs.Lists.{tally-one, tally-append}
+use Rattle.ledger.proofs.Turns.{next-in-turn}
 use Rattle.ledger.proofs.Stores.{kept-refl, store-kept}
 use Rattle.ledger.proofs.Holding.{fewer-hold, more-hold}
 
@@ -81,11 +82,6 @@ module _ (k : Keeper) (l : Ledger) where
   expect-stored : (isFull k l && isBlocking k) ≡ false → expectSlot k l ≡ At (expectPut k l)
   unfolding expectSlot
   expect-stored e = simp e
-
--- the place after one that is n in turn is n + 1 in turn
-next-in-turn : (q : Ring) (size i n : ℕ) → placeAfter q size i ≡ n % size → placeAfter q size (i + 1) ≡ (n + 1) % size
-unfolding placeAfter
-next-in-turn q size i n e = sym (place-released q size i 1) ∙ rw e (mod-add-mod n size 1)
 
 module _ (k : Keeper) (a : Area) (l : Ledger) (q : Ring) (mem : List ℕ) (h : Holds k a (l .held) q mem) (r : Record) where
   -- full in the book is full in the ring

@@ -3,6 +3,7 @@ pub mod Balances
 pub mod Stores
 pub mod Sections
 pub mod Holding
+pub mod Turns
 pub mod Arrivals
 pub mod Places
 pub mod Releases

@@ -1,15 +1,13 @@
 -- What a reader of the ring and the memory sees is what the book says.
 -- Assumes nothing.
-use Prim.Native.Nat.{ℕ, _+_, _-_, _%_, _≤_, _<_}
+use Prim.Native.Nat.{ℕ, _-_, _%_, _≤_, _<_}
 use mathlib.Core.Path.{_≡_, sym, ap, _∙_}
 use mathlib.Core.Bool.{true}
 use mathlib.Core.List.{List}
-use native.Mathlib.Nat.{mod-add-mod, add-mod-right}
 use native.Mathlib.Omega.{arith}
 use lib.ListN.{getD}
-use Rattle.ring.specs.Rings.{Fit, placeAfter, putPlace, age, held}
+use Rattle.ring.specs.Rings.{age, held}
 use Rattle.ring.specs.declared.Ring.{Ring}
-use Rattle.ring.proofs.Circle.{place-zero, place-round, place-released}
 use Rattle.ring.proofs.Holding.{held-age}
 use Rattle.engine.specs.declared.areas.Area.{Area}
 use Rattle.engine.specs.declared.keeping.Keeper.{Keeper}
@@ -20,23 +18,8 @@ use Rattle.ledger.specs.Memory.{elementAt}
 use Rattle.ledger.specs.Standing.{Holds}
 use Rattle.ledger.specs.Promises.{WordsTold, OldestTold}
 use Rattle.ledger.proofs.Lists.{each-index, tally-all}
+use Rattle.ledger.proofs.Turns.{oldest-in-turn}
 use Rattle.ledger.proofs.Places.{entry-at, held-here, held-there, held-once}
-
--- where the next place is that of the n-th in turn, the oldest place is that of the one so many before it as are held
-pub oldest-in-turn : (q : Ring) (size n : ℕ) → Fit q size → putPlace q size ≡ n % size → q .fill ≤ n → q .oldest ≡ (n - q .fill) % size
-unfolding placeAfter
-oldest-in-turn q size n fit t some =
-    let f : ℕ = size - q .fill in
-    let turn : 0 + size ≡ q .fill + f = omega (arith, fit .room) in
-    let rest : n + f ≡ n - q .fill + size = omega (arith, fit .room) in
-    sym (place-zero q size fit)
-    ∙ sym (place-round q size 0)
-    ∙ ap (placeAfter q size) turn
-    ∙ sym (place-released q size (q .fill) f)
-    ∙ ap (λ (p : ℕ). (p + f) % size) t
-    ∙ mod-add-mod n size f
-    ∙ ap (λ (m : ℕ). m % size) rest
-    ∙ add-mod-right (n - q .fill) size
 
 module _ (k : Keeper) (a : Area) (l : Ledger) (q : Ring) (mem : List ℕ) (h : Holds k a (l .held) q mem) where
   -- a held place is the one of an entry that is held

@@ -4,7 +4,6 @@ use Prim.Native.Nat.{ℕ, zero, suc, _+_, _-_, _%_, _≤_, _<_}
 use mathlib.Core.Path.{_≡_, refl, sym, ap, _∙_}
 use mathlib.Core.Bool.{Bool, true, false, not}
 use mathlib.Core.List.{List, [], _∷_, _++_}
-use native.Mathlib.Nat.{mod-add-mod}
 use native.Mathlib.Omega.{arith}
 use lib.Dec.{ltb}
 use lib.ListN.{length, take, drop, getD, length-drop, List·getD-append}
@@ -22,28 +21,17 @@ use Rattle.ledger.specs.Lists.{tally, those, others, Each}
 use Rattle.requests.specs.Requests.{Entry, Book, isBuffer, noEntry}
 use Rattle.requests.specs.Balance.{isShared, waiting}
 use Rattle.requests.specs.Standing.{Circling}
+use Rattle.ledger.proofs.Turns.{next-in-turn}
 use Rattle.ledger.proofs.Lists.{each-index, tally-split, tally-none, tally-some, tally-both, those-those, those-first, others-first, length-snoc}
 
 -- whatever is in a shared buffer is among the shared ones
-pub shared-tally : (g : Registers) (es : List Entry) (b : ℕ) → dedicated g ≤ b → tally (isBuffer b) (those (isShared g) es) ≡ tally (isBuffer b) es
+shared-tally : (g : Registers) (es : List Entry) (b : ℕ) → dedicated g ≤ b → tally (isBuffer b) (those (isShared g) es) ≡ tally (isBuffer b) es
 shared-tally g es b h =
     omega (
       arith,
       tally-split (isBuffer b) (isShared g) es,
       tally-both (isBuffer b) (λ x. not (isShared g x)) (λ x n. ne-eqb (x .buffer) b (λ e. omega (arith, leb-false (dedicated g) (x .buffer) (not-true (isShared g x) n)))) es,
     )
-
--- one more moves the put place one on
-put-on : (ring : Ring) (size n : ℕ) → putPlace ring size ≡ n % size → putPlace (pushed ring) size ≡ suc n % size
-unfolding placeAfter
-put-on ring size n e =
-    let sum : ring .oldest + (ring .fill + 1) ≡ ring .oldest + ring .fill + 1 = omega arith in
-    let more : n + 1 ≡ suc n = omega arith in
-    ap (λ (x : ℕ). x % size) sum
-    ∙ sym (mod-add-mod (ring .oldest + ring .fill) size 1)
-    ∙ ap (λ (x : ℕ). (x + 1) % size) e
-    ∙ mod-add-mod n size 1
-    ∙ ap (λ (x : ℕ). x % size) more
 
 module _ (g : Registers) (l : Book) (ring : Ring) (c : Circling g l ring) where
   -- what changes nothing in the shared part
@@ -63,7 +51,10 @@ module _ (g : Registers) (l : Book) (ring : Ring) (c : Circling g l ring) where
     fit = fit-pushed ring (shared g) (c .fit) h;
     fill = ap length p ∙ length-snoc (waiting g l) e ∙ omega (arith, c .fill);
     placed = λ i k. ap (λ (es : List Entry). getD es i noEntry .buffer) p ∙ at-place i k ∙ ap (λ (x : ℕ). dedicated g + x) (sym (place-pushed ring (shared g) i));
-    next = put-on ring (shared g) (tally (isShared g) (l .requested)) (c .next) ∙ ap (λ (n : ℕ). n % shared g) (sym t);
+    next =
+        place-pushed ring (shared g) (ring .fill + 1)
+        ∙ next-in-turn ring (shared g) (ring .fill) (tally (isShared g) (l .requested)) (c .next)
+        ∙ ap (λ (n : ℕ). n % shared g) (omega (arith, t));
   }
     where
       at-place : (i : ℕ) → i < ring .fill + 1 → getD (waiting g l ++ e ∷ []) i noEntry .buffer ≡ dedicated g + placeAfter ring (shared g) i

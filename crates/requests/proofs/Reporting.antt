@@ -146,7 +146,7 @@ module _ (l : Book) (s : State) (r : Record) (mem : List ℕ) (i : InStep l s r 
   candidate = candidate-told l s mem (i .agrees .holds) b ∙ best-wins (isCandidate (s .regs) l) (λ k. rankOf (pendingIn l k .frame)) (txCount (s .regs)) b best .one
 
   -- before the event
-  pub sent-agrees : TxAgrees (s .regs) (noteSent l b) (sentState s b) mem
+  sent-agrees : TxAgrees (s .regs) (noteSent l b) (sentState s b) mem
   sent-agrees = go (inSharedFifo s b) refl
     where
       go : (t : Bool) → inSharedFifo s b ≡ t

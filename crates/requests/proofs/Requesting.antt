@@ -116,7 +116,7 @@ module _ (s : State) where
 
   module _ (l : Book) (mem : List ℕ) (a : TxHolds (s .regs) l s mem) where
     -- the book has the same free place
-    pub free-told : freePlace s ≡ freeShared (s .regs) l
+    free-told : freePlace s ≡ freeShared (s .regs) l
     unfolding freePlace freeShared
     free-told = go (isQueue (s .regs)) refl
       where

@@ -14,14 +14,15 @@ use Rattle.requests.specs.Requests.{Entry, Book}
 abbrev pub numberOf : Entry → ℕ
 numberOf e = e .number
 
+-- each that was accepted is pending, sent or cancelled
 abbrev pub Balanced : Book → Type 0
 Balanced l = Parted numberOf (l .requested) (l .pending) (l .sent) (l .cancelled)
 
--- of a shared buffer
+-- it has a shared buffer
 abbrev pub isShared : Registers → Entry → Bool
 isShared g e = leb (dedicated g) (e .buffer)
 
--- those that are pending, in the order in which they were accepted
+-- the shared ones that are pending, in the order in which they were accepted
 abbrev pub waiting : Registers → Book → List Entry
 waiting g l = those (isShared g) (l .pending)
 
