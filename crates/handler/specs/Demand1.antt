@@ -7,9 +7,10 @@ use mathlib.Core.Logic.{_↔_}
 use lib.ListN.{length, getD}
 use Rattle.words.specs.Rules.{allowed, refused}
 use Rattle.engine.specs.Fitness.{unfit}
+use Rattle.ledger.specs.Histories.{after}
 use Rattle.handler.specs.Calls.{World, Call, readFifo, readBuffer, askChoice, refusal}
 use Rattle.handler.specs.Named.{SameBut, named, lent, output, written, Part, Same, isIn, changed}
-use Rattle.handler.specs.Steps.{step, after}
+use Rattle.handler.specs.Steps.{step}
 use Rattle.handler.specs.Rows.{Row, row, rows}
 
 -- row k of the table applies, and none before it: the rows stand in the order of their numbers
@@ -46,7 +47,7 @@ abbrev pub IsFit : World → Type 0
 IsFit w = unfit (w .state) (w .status) (length (w .memory)) ≡ false
 
 abbrev pub FitAfterAnyCalls : Type 0
-FitAfterAnyCalls = (cs : List Call) (w : World) → IsFit w → IsFit (after w cs)
+FitAfterAnyCalls = (cs : List Call) (w : World) → IsFit w → IsFit (after step w cs)
 
 -- after every call, accepted or refused, what its answer does not name is as it was: each word of the memory, each byte of a lent output, each part of state and record
 pub record OthersStay (w : World) (c : Call) : Type 0 where

@@ -1,5 +1,4 @@
--- What each call answers and leaves, from the calls' own definitions; and runs of calls.
-use mathlib.Core.List.{List, [], _∷_}
+-- What each call answers and leaves, from the calls' own definitions.
 use lib.ListN.{length}
 use Rattle.engine.specs.Starting.{startRule}
 use Rattle.engine.specs.Overview.{clearRule, statusRule}
@@ -59,8 +58,3 @@ step w (clearFlags mask) =
     let o = clearRule (w .state) (w .status) (length (w .memory)) mask in
     (o .says, withStatus w (o .status))
 step w status = (statusRule (w .state) (w .status) (length (w .memory)), w)
-
--- the world after a run of calls
-abbrev pub after : World → List Call → World
-after w [] = w
-after w (c ∷ cs) = after (step w c .1) cs

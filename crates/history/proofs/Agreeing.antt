@@ -2,11 +2,9 @@
 -- Assumes nothing.
 use Prim.Native.Nat.{ℕ, zero, suc, _≤_, _<_}
 use mathlib.Core.Path.{_≡_, refl, sym, _∙_, subst}
-use mathlib.Core.Bool.{true}
 use mathlib.Core.List.{List}
 use native.Mathlib.Omega.{arith}
 use lib.ListN.{length}
-use Rattle.words.specs.Bits.{isSet}
 use Rattle.ring.specs.declared.Ring.{Ring}
 use Rattle.registers.specs.declared.Registers.{Registers}
 use Rattle.layout.specs.Legal.{Legal}
@@ -20,54 +18,30 @@ use Rattle.engine.proofs.Rooms.{buffer-roomy, tx-roomy}
 use Rattle.receiving.specs.Fifos.{keeperOf}
 use Rattle.reporting.specs.Reporting.{eventKeeper}
 use Rattle.ledger.specs.Ledgers.{Ledger}
-use Rattle.ledger.specs.Balance
-use Rattle.ledger.specs.Standing.{KeptOutside, Holds, Told, elementAt}
-use Rattle.ledger.proofs.Holding.{apart-holds}
+use Rattle.ledger.specs.Memory.{KeptOutside}
+use Rattle.ledger.specs.Standing.{RingAgrees}
+use Rattle.ledger.proofs.Holding.{apart-agrees}
+use Rattle.ledger.proofs.Sections.{own, own-fifo, own-apart}
 use Rattle.ledger.proofs.Stores.{kept-apart, element-kept}
 use Rattle.requests.specs.Requests
-use Rattle.requests.specs.Standing.{Agrees, RestSame}
+use Rattle.requests.specs.Standing.{TxAgrees, RestSame}
 use Rattle.requests.proofs.Steps.{elsewhere-agrees}
-use Rattle.history.specs.Books.{Book, InBuffer, fifoLedger, withFifoLedger, withSending, withBuffers, lastIn}
-use Rattle.history.proofs.Sections.{own, own-fifo, own-apart, Rest, rest-kept}
-
--- a ring, its elements and its ledger agree
-pub record RingAgrees (k : Keeper) (a : Area) (l : Ledger) (q : Ring) (mem : List ℕ) : Type 0 where
-  pub holds : Holds k a (l .held) q mem
-  pub told : Told k l q
-  pub balanced : Balance.Balanced l
-
--- each Rx buffer that has new data holds what was last stored in it
-pub record BuffersAgree (g : Registers) (newdata : ℕ) (buffered : List InBuffer) (mem : List ℕ) : Type 0 where
-  pub inside : (n : ℕ) → isSet newdata n ≡ true → n < g .buffers
-  pub words : (n : ℕ) → isSet newdata n ≡ true → elementAt (bufferArea g) n mem ≡ lastIn n buffered
-
--- all parts of the book
-pub record Agreed (g : Registers) (began : List ℕ) (b : Book) (s : State) (mem : List ℕ) : Type 0 where
-  pub regs : s .regs ≡ g
-  pub size : length mem ≡ length began
-  pub fifos : (fifo : ℕ) → fifo ≤ 1 → RingAgrees (keeperOf g fifo) (fifoArea g fifo) (fifoLedger b fifo) (fifoRing s fifo) mem
-  pub events : RingAgrees (eventKeeper g) (eventArea g) (b .events) (s .events) mem
-  pub requests : Agrees g (b .requests) s mem
-  pub newdata : s .newdata ≡ b .newdata
-  pub buffers : BuffersAgree g (b .newdata) (b .buffered) mem
-  pub rest : Rest g began mem
+use Rattle.history.specs.Books.{Book, InRxBuffer, fifoLedger, withFifoLedger, withSending, withBuffers}
+use Rattle.history.specs.Standing.{BuffersAgree, BookAgrees}
+use Rattle.history.proofs.Sections.{rest-kept}
 
 -- ---- a change in section 2 + i leaves the others
 
 module _ (g : Registers) (mem next : List ℕ) (legal : Legal memoryWords g (length mem)) (i : ℕ) (own-i : i < 5) (kept : KeptOutside (own g i) mem next) where
   pub ring-elsewhere : (j : ℕ) → j < 5 → (i ≡ j → ⊥) → (k : Keeper) (l : Ledger) (q : Ring) → RingAgrees k (own g j) l q mem → RingAgrees k (own g j) l q next
-  ring-elsewhere j own-j ne k l q r = record {
-    holds = apart-holds k (own g j) (l .held) q mem (r .holds) (own g i) next kept (own-apart g (length mem) legal i j own-i own-j ne);
-    told = r .told;
-    balanced = r .balanced;
-  }
+  ring-elsewhere j own-j ne k l q r = apart-agrees k (own g j) l q mem r (own g i) next kept (own-apart g (length mem) legal i j own-i own-j ne)
 
   fifo-elsewhere : (fifo : ℕ) → fifo ≤ 1 → (i ≡ fifo → ⊥) → (k : Keeper) (l : Ledger) (q : Ring) → RingAgrees k (fifoArea g fifo) l q mem → RingAgrees k (fifoArea g fifo) l q next
   fifo-elsewhere fifo m ne k l q r =
       let e = own-fifo g fifo m in
       subst (λ (a : Area). RingAgrees k a l q next) e (ring-elsewhere fifo (omega arith) ne k l q (subst (λ (a : Area). RingAgrees k a l q mem) (sym e) r))
 
-  buffers-elsewhere : (i ≡ 2 → ⊥) → (newdata : ℕ) (buffered : List InBuffer) → BuffersAgree g newdata buffered mem → BuffersAgree g newdata buffered next
+  buffers-elsewhere : (i ≡ 2 → ⊥) → (newdata : ℕ) (buffered : List InRxBuffer) → BuffersAgree g newdata buffered mem → BuffersAgree g newdata buffered next
   buffers-elsewhere ne newdata buffered r = record {
     inside = r .inside;
     words = λ n e.
@@ -76,17 +50,17 @@ module _ (g : Registers) (mem next : List ℕ) (legal : Legal memoryWords g (len
         ∙ r .words n e;
   }
 
-  requests-elsewhere : i < 4 → (l : Requests.Book) (s after : State) → after .pending ≡ s .pending → after .shared ≡ s .shared → Agrees g l s mem → Agrees g l after next
-  requests-elsewhere h l s after p q r =
-      let same = kept-apart (own g 4) (own g i) mem next kept (own-apart g (length mem) legal i 4 own-i (omega arith) (λ e. omega arith)) in
-      elsewhere-agrees g l s after mem next p q (tx-roomy g (length mem) legal) (record { size = same .size; words = λ k n. same .within k (n .from) (n .below) }) r
+  pub requests-elsewhere : i < 4 → (l : Requests.Book) (s after : State) → after .pending ≡ s .pending → after .shared ≡ s .shared → TxAgrees g l s mem → TxAgrees g l after next
+  requests-elsewhere h l s after p q =
+      elsewhere-agrees g l s after mem next p q (tx-roomy g (length mem) legal)
+      (kept-apart (own g 4) (own g i) mem next kept (own-apart g (length mem) legal i 4 own-i (omega arith) (λ e. omega arith)))
 
 -- ---- one part changes
 
-module _ (g : Registers) (began : List ℕ) (b : Book) (s : State) (mem : List ℕ) (legal : Legal memoryWords g (length mem)) (h : Agreed g began b s mem) (next : List ℕ) where
+module _ (g : Registers) (began : List ℕ) (b : Book) (s : State) (mem : List ℕ) (legal : Legal memoryWords g (length mem)) (h : BookAgrees g began b s mem) (next : List ℕ) where
   -- FIFO 0 or 1
   pub fifo-agreed : (fifo : ℕ) → fifo ≤ 1 → (l : Ledger) (q : Ring) → KeptOutside (fifoArea g fifo) mem next
-      → RingAgrees (keeperOf g fifo) (fifoArea g fifo) l q next → Agreed g began (withFifoLedger b fifo l) (withFifo s fifo q) next
+      → RingAgrees (keeperOf g fifo) (fifoArea g fifo) l q next → BookAgrees g began (withFifoLedger b fifo l) (withFifo s fifo q) next
   unfolding fifoLedger withFifoLedger fifoRing withFifo
   fifo-agreed fifo m l q outside r =
       let kept = subst (λ (a : Area). KeptOutside a mem next) (sym (own-fifo g fifo m)) outside in
@@ -112,8 +86,8 @@ module _ (g : Registers) (began : List ℕ) (b : Book) (s : State) (mem : List �
       both (suc zero) (suc (suc k)) m n kept r = absurd (omega arith)
 
   -- the Rx buffers
-  pub buffers-agreed : (newdata : ℕ) (buffered : List InBuffer) → KeptOutside (bufferArea g) mem next
-      → BuffersAgree g newdata buffered next → Agreed g began (withBuffers b newdata buffered) (withNewData s newdata) next
+  pub buffers-agreed : (newdata : ℕ) (buffered : List InRxBuffer) → KeptOutside (bufferArea g) mem next
+      → BuffersAgree g newdata buffered next → BookAgrees g began (withBuffers b newdata buffered) (withNewData s newdata) next
   unfolding fifoLedger fifoRing
   buffers-agreed newdata buffered kept r = record {
     regs = h .regs;
@@ -128,7 +102,7 @@ module _ (g : Registers) (began : List ℕ) (b : Book) (s : State) (mem : List �
 
   -- the event list or the Tx buffers, sections 5 and 6
   pub sending-agreed : (i : ℕ) → i < 5 → 2 < i → KeptOutside (own g i) mem next → (after : State) → RestSame s after → (events : Ledger) (requests : Requests.Book)
-      → RingAgrees (eventKeeper g) (eventArea g) events (after .events) next → Agrees g requests after next → Agreed g began (withSending b events requests) after next
+      → RingAgrees (eventKeeper g) (eventArea g) events (after .events) next → TxAgrees g requests after next → BookAgrees g began (withSending b events requests) after next
   unfolding fifoLedger fifoRing
   sending-agreed i own-i m kept after same events requests r t = record {
     regs = same .regs ∙ h .regs;

@@ -14,12 +14,12 @@ use Rattle.words.specs.Runs.{splice}
 use Rattle.words.proofs.Bits.{bit-lt, bit-and, set-other}
 use Rattle.registers.specs.declared.Registers.{Registers}
 use Rattle.engine.specs.Areas.{bufferArea, placeIn, Roomy}
-use Rattle.ledger.specs.Standing.{elementAt}
+use Rattle.ledger.specs.Memory.{elementAt}
 use Rattle.ledger.proofs.Stores.{store-there, store-other}
-use Rattle.history.specs.Books.{InBuffer, lastIn}
-use Rattle.history.proofs.Agreeing.{BuffersAgree}
+use Rattle.history.specs.Books.{InRxBuffer, lastIn}
+use Rattle.history.specs.Standing.{BuffersAgree}
 
-module _ (g : Registers) (newdata : ℕ) (buffered : List InBuffer) (mem : List ℕ) (h : BuffersAgree g newdata buffered mem) where
+module _ (g : Registers) (newdata : ℕ) (buffered : List InRxBuffer) (mem : List ℕ) (h : BuffersAgree g newdata buffered mem) where
   -- one is stored
   pub put-buffer : Roomy (bufferArea g) (length mem) → (b : ℕ) → b < g .buffers → (ws : List ℕ) → length ws ≡ bufferArea g .each
       → BuffersAgree g (withBit newdata b) (record { buffer = b; words = ws } ∷ buffered) (splice mem (placeIn (bufferArea g) b) ws)

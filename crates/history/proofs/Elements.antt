@@ -18,7 +18,7 @@ use Rattle.engine.specs.Answers.{answers}
 use Rattle.engine.specs.Areas.{placeIn, dataWords, Roomy}
 use Rattle.engine.specs.declared.areas.Area.{Area}
 use Rattle.taking.specs.Reading.{readIn}
-use Rattle.ledger.specs.Standing.{elementAt}
+use Rattle.ledger.specs.Memory.{elementAt}
 use Rattle.ledger.proofs.Stores.{element-inside}
 use Rattle.history.specs.Expected.{readOf}
 
@@ -36,7 +36,7 @@ module _ (mem : List ℕ) (a : Area) (place : ℕ) (ws : List ℕ) (room : Roomy
       let n : 2 + dataWords a ≡ a .each = omega (arith, room .header) in
       rw n (there ∙ sym (take-all (a .each) ws (omega (arith, size))))
 
-  pub words-alike : ReadsAlike mem ws (placeIn a place) 0 (dataWords a)
+  words-alike : ReadsAlike mem ws (placeIn a place) 0 (dataWords a)
   words-alike = own-words mem ws (placeIn a place) 0 (dataWords a) alone
 
   pub read-alone : (out : List ℕ) → readIn mem a place out ≡ readOf a ws out

@@ -50,15 +50,16 @@ use Rattle.receiving.proofs.Outcomes.{receive-cases}
 use Rattle.taking.proofs.Outcomes.{acknowledge-cases, release-cases}
 use Rattle.receiving.proofs.Lists.{legal-lists}
 use Rattle.ledger.specs.Ledgers.{noteArrival, noteRelease, isHeldAt, entryAt}
-use Rattle.ledger.proofs.Arrivals.{arrival-slot, arrival-told, arrival-holds, arrival-kept}
-use Rattle.ledger.proofs.Balances.{arrival-balanced, release-balanced}
-use Rattle.ledger.proofs.Releases.{release-test, release-holds, release-told}
-use Rattle.ledger.proofs.Seen.{seen-words}
+use Rattle.ledger.specs.Histories.{noted}
+use Rattle.ledger.proofs.Arrivals.{arrival-told, arrival-agrees, arrival-keeps}
+use Rattle.ledger.proofs.Releases.{release-told, release-agrees}
+use Rattle.ledger.proofs.Seen.{words-told}
 use Rattle.ledger.proofs.Stores.{kept-refl, store-kept}
 use Rattle.requests.proofs.Steps.{told-by}
-use Rattle.history.specs.Books.{Book, fifoLedger, withFifoLedger, withBuffers, lastIn, noted, noteFate}
+use Rattle.history.specs.Books.{Book, fifoLedger, withFifoLedger, withBuffers, lastIn, noteFate}
 use Rattle.history.specs.Expected.{fateOf, expectReceive, readOf, fifoRules, bufferRules, expectReadFifo, expectAcknowledge, expectReadBuffer, expectRelease}
-use Rattle.history.proofs.Agreeing.{Agreed, fifo-agreed, buffers-agreed}
+use Rattle.history.specs.Standing.{BookAgrees}
+use Rattle.history.proofs.Agreeing.{fifo-agreed, buffers-agreed}
 use Rattle.history.proofs.Buffers.{put-buffer, free-buffer}
 use Rattle.history.proofs.Elements.{settle-alike, read-alone}
 use Rattle.history.proofs.Sections.{lists-stay}
@@ -67,7 +68,7 @@ use Rattle.history.proofs.Sections.{lists-stay}
 each-long : (m : Matched) (f : Frame) (time : ℕ) (d : List ℕ) (a : Area) (words : ℕ) → Roomy a words → length (rxElement m f time d (dataWords a)) ≡ a .each
 each-long m f time d a words room = omega (arith, element-length (word0 f) (rxWord1 m f time) d (dataWords a), room .header)
 
-module _ (began : List ℕ) (b : Book) (s : State) (r : Record) (mem : List ℕ) (fit : unfit s r (length mem) ≡ false) (h : Agreed (s .regs) began b s mem) where
+module _ (began : List ℕ) (b : Book) (s : State) (r : Record) (mem : List ℕ) (fit : unfit s r (length mem) ≡ false) (h : BookAgrees (s .regs) began b s mem) where
   abbrev g : Registers
   g = s .regs
 
@@ -78,7 +79,7 @@ module _ (began : List ℕ) (b : Book) (s : State) (r : Record) (mem : List ℕ)
 
   module _ (f : Frame) (d : List ℕ) (time : ℕ) where
     abbrev Left : ReceiveOutcome → Type 0
-    Left o = Agreed g began (noted b (noteFate g b f d time) (o .says)) (o .state) (o .memory)
+    Left o = BookAgrees g began (noted b (noteFate g b f d time) (o .says)) (o .state) (o .memory)
 
     fate-noted : (fifo : ℕ) (m : Matched) (slot : Slot) → withFifoLedger b fifo (noteArrival (keeperOf g fifo) (fifoLedger b fifo) (rxElement m f time d (dataWords (fifoArea g fifo))) slot)
         ≡ noteFate g b f d time (slotSays fifo m slot)
@@ -96,14 +97,10 @@ module _ (began : List ℕ) (b : Book) (s : State) (r : Record) (mem : List ℕ)
         let ledger = fifoLedger b fifo in
         let q = fifoRing s fifo in
         let slot = keepRule k q r .slot in
-        subst (λ (c : Book). Agreed g began c (intoFifo s r mem f d time fifo priority m .state) (slotMemory mem a ws slot)) (fate-noted fifo m slot)
+        subst (λ (c : Book). BookAgrees g began c (intoFifo s r mem f d time fifo priority m .state) (slotMemory mem a ws slot)) (fate-noted fifo m slot)
         (fifo-agreed g began b s mem legal h (slotMemory mem a ws slot) fifo l (noteArrival k ledger ws slot) (keepRule k q r .ring)
-        (arrival-kept k a ledger q mem (x .holds) r ws w)
-        (record {
-          holds = arrival-holds k a ledger q mem (x .holds) r ws w;
-          told = arrival-told k a ledger q mem (x .holds) r (x .told) ws;
-          balanced = arrival-balanced ledger (x .balanced) k ws slot;
-        }))
+        (arrival-keeps k a q mem (x .holds .places) (x .holds .room) (x .holds .ring) r ws w)
+        (arrival-agrees k a ledger q mem x r ws w))
 
     into-buffer : (buffer i : ℕ) → buffer < g .buffers → Left (intoBuffer s r mem f d time buffer i)
     unfolding intoBuffer
@@ -125,8 +122,7 @@ module _ (began : List ℕ) (b : Book) (s : State) (r : Record) (mem : List ℕ)
     goes-told : (x : Goes) → Within g (s .newdata) x → goesTo s r mem f d time x .says ≡ answers (fateOf g b x)
     unfolding intoFifo intoBuffer intoNothing
     goes-told (toFifo fifo priority m) w =
-        let x = h .fifos fifo (w .0) in
-        ap (λ (slot : Slot). answers (slotSays fifo m slot)) (arrival-slot (keeperOf g fifo) (fifoArea g fifo) (fifoLedger b fifo) (fifoRing s fifo) mem (x .holds) r (x .told))
+        ap (λ (slot : Slot). answers (slotSays fifo m slot)) (arrival-told (keeperOf g fifo) (fifoArea g fifo) (fifoLedger b fifo) (fifoRing s fifo) mem (h .fifos fifo (w .0)) r)
     goes-told (toBuffer buffer i) w = refl
     goes-told (discarded why m) w = refl
 
@@ -154,7 +150,7 @@ module _ (began : List ℕ) (b : Book) (s : State) (r : Record) (mem : List ℕ)
         go true e = refl
         go false e =
             ap (λ (u : Bool). first (refuseIf (leb (fifoSize g fifo) place) 23 ∷ refuseIf (not u) 29 ∷ more))
-            (release-test (keeperOf g fifo) (fifoArea g fifo) (fifoLedger b fifo) (fifoRing s fifo) mem (h .fifos fifo (ltb-false 1 fifo e) .holds) place)
+            (release-told (keeperOf g fifo) (fifoArea g fifo) (fifoLedger b fifo) (fifoRing s fifo) mem (h .fifos fifo (ltb-false 1 fifo e)) place)
 
     pub acknowledge-told : acknowledgeRule s r (length mem) fifo place .says ≡ expectAcknowledge g b fifo place
     unfolding acknowledgeRule expectAcknowledge
@@ -163,20 +159,14 @@ module _ (began : List ℕ) (b : Book) (s : State) (r : Record) (mem : List ℕ)
         ∙ ap (λ (v : Ruling ℕ). settle v done refuses) (place-ruled [])
 
     abbrev Acknowledged : ReleaseOutcome → Type 0
-    Acknowledged o = Agreed g began (noted b (λ t. withFifoLedger b fifo (noteRelease (fifoLedger b fifo) place)) (o .says)) (o .state) mem
+    Acknowledged o = BookAgrees g began (noted b (λ t. withFifoLedger b fifo (noteRelease (fifoLedger b fifo) place)) (o .says)) (o .state) mem
 
     pub acknowledge-kept : Acknowledged (acknowledgeRule s r (length mem) fifo place)
     acknowledge-kept =
         acknowledge-cases s r (length mem) Acknowledged (λ n. h) fifo place
-        (λ u l p. let k = keeperOf g fifo in
-        let a = fifoArea g fifo in
-        let x = h .fifos fifo l in
+        (λ u l p. let a = fifoArea g fifo in
         fifo-agreed g began b s mem legal h mem fifo l (noteRelease (fifoLedger b fifo) place) (releasedThrough (fifoRing s fifo) (fifoSize g fifo) place) (kept-refl a mem)
-        (record {
-          holds = release-holds k a (fifoLedger b fifo) (fifoRing s fifo) mem (x .holds) place (p .holds);
-          told = release-told k a (fifoLedger b fifo) (fifoRing s fifo) mem (x .holds) place (p .holds) (x .told);
-          balanced = release-balanced (fifoLedger b fifo) (x .balanced) place;
-        }))
+        (release-agrees (keeperOf g fifo) a (fifoLedger b fifo) (fifoRing s fifo) mem (h .fifos fifo l) place (p .holds)))
 
     pub read-fifo-told : (out : List ℕ) → readFifoRule s r mem fifo place out ≡ expectReadFifo g b fifo place out
     unfolding readFifoRule expectReadFifo
@@ -193,7 +183,7 @@ module _ (began : List ℕ) (b : Book) (s : State) (r : Record) (mem : List ℕ)
             let here = or-neither (ltb 1 fifo) (leb (fifoSize g fifo) place) (p .0) in
             let x = h .fifos fifo (ltb-false 1 fifo (here .0)) in
             read-alone mem (fifoArea g fifo) place (entryAt place (fifoLedger b fifo .held) .words) (fifo-roomy g (length mem) legal fifo) (leb-false (fifoSize g fifo) place (here .1))
-            (seen-words (keeperOf g fifo) (fifoArea g fifo) (fifoLedger b fifo) (fifoRing s fifo) mem (x .holds) place (not-false (held (fifoRing s fifo) (fifoSize g fifo) place) (p .1))) out
+            (words-told (keeperOf g fifo) (fifoArea g fifo) (fifoLedger b fifo) (fifoRing s fifo) mem x place (not-false (held (fifoRing s fifo) (fifoSize g fifo) place) (p .1))) out
 
   -- ---- an Rx buffer
 
@@ -208,7 +198,7 @@ module _ (began : List ℕ) (b : Book) (s : State) (r : Record) (mem : List ℕ)
         ∙ ap (λ (v : Ruling ℕ). settle v done refuses) (buffer-ruled [])
 
     abbrev Released : ReleaseOutcome → Type 0
-    Released o = Agreed g began (noted b (λ t. withBuffers b (withoutBit 64 (b .newdata) buffer) (b .buffered)) (o .says)) (o .state) mem
+    Released o = BookAgrees g began (noted b (λ t. withBuffers b (withoutBit 64 (b .newdata) buffer) (b .buffered)) (o .says)) (o .state) mem
 
     pub release-buffer-kept : Released (releaseRule s r (length mem) buffer)
     release-buffer-kept =

@@ -8,7 +8,6 @@ use native.Mathlib.Omega.{arith}
 use lib.ListN.{length}
 use Rattle.words.specs.Rules.{Ruling, allowed, refused, refuseIf, first, settle}
 use Rattle.words.specs.Bits.{isSet}
-use Rattle.ring.specs.Rings.{noneHeld}
 use Rattle.registers.specs.declared.Registers.{Registers}
 use Rattle.layout.specs.Legal.{Legal}
 use Rattle.layout.specs.Sections.{memoryWords}
@@ -18,20 +17,16 @@ use Rattle.filter.specs.Destination.{Goes}
 use Rattle.filter.proofs.OwnSection.{destination-reads-its-list}
 use Rattle.layout.proofs.Accepted.{accepted-is-legal}
 use Rattle.engine.specs.Answers.{Says, refuses, answers, done}
-use Rattle.engine.specs.Areas.{fifoArea, eventArea, Roomy}
+use Rattle.engine.specs.Areas.{fifoArea, eventArea}
 use Rattle.engine.specs.Starting.{startRule}
 use Rattle.engine.specs.States.{emptyState, fifoRing}
-use Rattle.engine.specs.declared.areas.Area.{Area}
-use Rattle.engine.specs.declared.keeping.Keeper.{Keeper}
 use Rattle.engine.proofs.Fits.{empty-is-fit}
 use Rattle.engine.proofs.Rooms.{fifo-roomy, event-roomy}
 use Rattle.receiving.specs.Fifos.{keeperOf}
 use Rattle.reporting.specs.Reporting.{eventKeeper}
-use Rattle.ledger.specs.Ledgers.{emptyLedger}
-use Rattle.ledger.proofs.Balances.{start-balanced}
-use Rattle.ledger.proofs.Holding.{start-holds, start-told}
+use Rattle.ledger.specs.Standing.{RingAgrees}
+use Rattle.ledger.proofs.Holding.{empty-agrees}
 use Rattle.ledger.proofs.Runs.{run-keeps, run-foretold}
-use Rattle.requests.proofs.Books.{each-once}
 use Rattle.requests.proofs.Pending.{no-bits}
 use Rattle.requests.proofs.Reporting.{reported-is-chosen}
 use Rattle.requests.proofs.Steps.{start-agrees}
@@ -40,21 +35,18 @@ use Rattle.handler.specs.Steps.{step}
 use Rattle.history.specs.Books.{emptyBook, fifoLedger, note}
 use Rattle.history.specs.Demand3.{InRun, Run, began, now, bookOf, Demand3, Answers, FiltersSuffice, SentInForm}
 use Rattle.history.specs.Expected.{fateOf, expectReceive, expect}
-use Rattle.history.proofs.Agreeing.{RingAgrees, Agreed}
+use Rattle.history.specs.Standing.{BookAgrees}
 use Rattle.history.proofs.Steps.{Standing, told, kept}
 
 -- ---- the start
 
-ring-start : (k : Keeper) (a : Area) (mem : List ℕ) → Roomy a (length mem) → a .count ≡ k .size → RingAgrees k a emptyLedger noneHeld mem
-ring-start k a mem room e = record { holds = start-holds k a mem room e (omega (arith, room .few)); told = start-told k; balanced = start-balanced }
-
-agreed-start : (g : Registers) (mem : List ℕ) → Legal memoryWords g (length mem) → Agreed g mem emptyBook (emptyState g) mem
+agreed-start : (g : Registers) (mem : List ℕ) → Legal memoryWords g (length mem) → BookAgrees g mem emptyBook (emptyState g) mem
 unfolding fifoLedger fifoRing
 agreed-start g mem legal = record {
   regs = refl;
   size = refl;
   fifos = both;
-  events = ring-start (eventKeeper g) (eventArea g) mem (event-roomy g (length mem) legal) refl;
+  events = empty-agrees (eventKeeper g) (eventArea g) mem (event-roomy g (length mem) legal) refl;
   requests = start-agrees g (emptyState g) mem refl refl;
   newdata = refl;
   buffers = record { inside = λ n e. absurd (empty n e); words = λ n e. absurd (empty n e) };
@@ -62,8 +54,8 @@ agreed-start g mem legal = record {
 }
   where
     both : (fifo : ℕ) → fifo ≤ 1 → RingAgrees (keeperOf g fifo) (fifoArea g fifo) (fifoLedger emptyBook fifo) (fifoRing (emptyState g) fifo) mem
-    both zero l = ring-start (keeperOf g 0) (fifoArea g 0) mem (fifo-roomy g (length mem) legal 0) refl
-    both (suc zero) l = ring-start (keeperOf g 1) (fifoArea g 1) mem (fifo-roomy g (length mem) legal 1) refl
+    both zero l = empty-agrees (keeperOf g 0) (fifoArea g 0) mem (fifo-roomy g (length mem) legal 0) refl
+    both (suc zero) l = empty-agrees (keeperOf g 1) (fifoArea g 1) mem (fifo-roomy g (length mem) legal 1) refl
     both (suc (suc k)) l = absurd (omega arith)
 
     empty : (n : ℕ) → isSet 0 n ≡ true → ⊥
@@ -94,17 +86,7 @@ module _ (r : Run) where
       emptyBook (began r) (r .calls) (r .given) (standing-start (r .before) (r .regs) (r .accepted))
 
 pub demand3 : Demand3
-demand3 r =
-    let a = standing r .agreed in
-    record {
-      fifos = λ fifo l. let x = a .fifos fifo l in record { balanced = x .balanced; holds = x .holds };
-      events = record { balanced = a .events .balanced; holds = a .events .holds };
-      requests = a .requests;
-      once = each-once (bookOf r .requests) (a .requests .balanced);
-      newdata = a .newdata;
-      buffers = a .buffers .words;
-      rest = a .rest;
-    }
+demand3 r = standing r .agreed
 
 pub every-answer : Answers
 every-answer r =

@@ -1,82 +1,26 @@
--- The engine's own sections as areas: they lie apart, and what changes in one changes no word of another.
+-- What changes in one of the engine's own sections leaves the words that are in none of them, the filter lists among these.
 -- Assumes nothing.
-use Prim.Native.Nat.{ℕ, zero, suc, _+_, _*_, _≤_, _<_}
+use Prim.Native.Nat.{ℕ, _+_, _≤_, _<_}
 use mathlib.Core.Path.{_≡_, refl, _∙_}
 use mathlib.Core.Bool.{Bool, true, false}
-use mathlib.Core.List.{List, [], _∷_}
+use mathlib.Core.List.{List}
 use mathlib.Core.Logic.{_⊎_, inl, inr}
 use native.Mathlib.Omega.{arith}
 use borrow.Author.Tests.{ltb-true, ltb-false, leb-true, leb-false}
 use lib.Dec.{ltb, leb}
-use lib.ListN.{getD}
 use Rattle.registers.specs.declared.Registers.{Registers}
-use Rattle.layout.specs.Legal.{Has, Legal}
-use Rattle.layout.specs.Sections.{memoryWords, none, sectionsOf}
-use Rattle.layout.specs.Verdict.{end}
-use Rattle.layout.specs.declared.sections.Section.{Section}
-use Rattle.layout.proofs.Table.{section-words, within-has}
-use Rattle.layout.proofs.Accepted.{sections-apart}
+use Rattle.layout.specs.Legal.{Legal}
+use Rattle.layout.specs.Sections.{memoryWords}
+use Rattle.layout.proofs.Table.{within-has}
 use Rattle.filter.specs.Promises.{SameSection}
 use Rattle.filter.specs.Search.{listOf}
-use Rattle.engine.specs.Areas.{fifoWord, fifoCode, fifoArea, bufferArea, eventArea, txArea}
-use Rattle.engine.specs.declared.areas.Area.{Area}
-use Rattle.ledger.specs.Standing.{areaEnd, Apart, KeptOutside}
-use Rattle.ledger.proofs.Stores.{apart-sym}
+use Rattle.ledger.specs.Memory.{areaEnd, KeptOutside}
+use Rattle.ledger.proofs.Sections.{own, own-start, own-size}
+use Rattle.history.specs.Standing.{RestKept}
 
--- section 2 + i as an area, i from 0 to 4
-abbrev pub own : Registers → ℕ → Area
-own g i = getD (fifoArea g 0 ∷ fifoArea g 1 ∷ bufferArea g ∷ eventArea g ∷ txArea g ∷ []) i (record { start = record { 0 = 0 }; count = 0; each = 0 })
-
-pub own-fifo : (g : Registers) (fifo : ℕ) → fifo ≤ 1 → own g fifo ≡ fifoArea g fifo
-own-fifo g zero h = refl
-own-fifo g (suc zero) h = refl
-own-fifo g (suc (suc k)) h = absurd (omega arith)
-
-module _ (g : Registers) where
-  own-start : (i : ℕ) → i < 5 → getD (sectionsOf g) (2 + i) none .start .0 ≡ own g i .start .0
-  unfolding fifoWord fifoCode
-  own-start zero h = refl
-  own-start (suc zero) h = refl
-  own-start (suc (suc zero)) h = refl
-  own-start (suc (suc (suc zero))) h = refl
-  own-start (suc (suc (suc (suc zero)))) h = refl
-  own-start (suc (suc (suc (suc (suc i))))) h = absurd (omega arith)
-
-  own-size : (i : ℕ) → i < 5 → getD (sectionsOf g) (2 + i) none .words ≡ own g i .count * own g i .each
-  unfolding fifoWord fifoCode
-  own-size zero h = section-words _ _ _
-  own-size (suc zero) h = section-words _ _ _
-  own-size (suc (suc zero)) h = section-words _ _ _
-  own-size (suc (suc (suc zero))) h = section-words _ _ _
-  own-size (suc (suc (suc (suc zero)))) h = section-words _ _ _
-  own-size (suc (suc (suc (suc (suc i))))) h = absurd (omega arith)
-
--- sections that lie apart are areas that do
-areas-apart : (a b : Area) (s t : Section) → s .start .0 ≡ a .start .0 → s .words ≡ a .count * a .each → t .start .0 ≡ b .start .0 → t .words ≡ b .count * b .each
-    → (end s ≤ t .start .0) ⊎ (end t ≤ s .start .0) → Apart a b
-areas-apart a b s t e f p q (inl h) = inl (omega (arith, h, e, f, p))
-areas-apart a b s t e f p q (inr h) = inr (omega (arith, h, e, p, q))
-
-module _ (g : Registers) (words : ℕ) (legal : Legal memoryWords g words) where
-  own-before : (i j : ℕ) → i < j → j < 5 → Apart (own g i) (own g j)
-  own-before i j a b =
-      areas-apart (own g i) (own g j) _ _ (own-start g i (omega arith)) (own-size g i (omega arith)) (own-start g j b) (own-size g j b)
-      (sections-apart memoryWords g words legal (2 + i) (2 + j) (omega arith) (omega arith))
-
-  pub own-apart : (i j : ℕ) → i < 5 → j < 5 → (i ≡ j → ⊥) → Apart (own g i) (own g j)
-  own-apart i j a b ne = go (ltb i j) refl
-    where
-      go : (t : Bool) → ltb i j ≡ t → Apart (own g i) (own g j)
-      go true e = own-before i j (ltb-true i j e) b
-      go false e = apart-sym (own g j) (own g i) (own-before j i (omega (arith, ne, ltb-false i j e)) a)
-
--- every word that is not of the engine's own sections is as it was at the start
-abbrev pub Rest : Registers → List ℕ → List ℕ → Type 0
-Rest g began mem = (k : ℕ) → ((i : ℕ) → 2 ≤ i → i < 7 → Has g i k → ⊥) → getD mem k 0 ≡ getD began k 0
-
-module _ (g : Registers) (began mem : List ℕ) (rest : Rest g began mem) where
+module _ (g : Registers) (began mem : List ℕ) (rest : RestKept g began mem) where
   -- a change in an own section leaves the rest
-  pub rest-kept : (i : ℕ) → i < 5 → (next : List ℕ) → KeptOutside (own g i) mem next → Rest g began next
+  pub rest-kept : (i : ℕ) → i < 5 → (next : List ℕ) → KeptOutside (own g i) mem next → RestKept g began next
   rest-kept i h next kept k none-has = kept .outside k (go (ltb k (own g i .start .0)) (leb (areaEnd (own g i)) k) refl refl) ∙ rest k none-has
     where
       go : (t u : Bool) → ltb k (own g i .start .0) ≡ t → leb (areaEnd (own g i)) k ≡ u → (k < own g i .start .0) ⊎ (areaEnd (own g i) ≤ k)

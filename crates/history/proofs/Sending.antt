@@ -24,31 +24,31 @@ use Rattle.engine.specs.States.{withEvents}
 use Rattle.engine.specs.declared.keeping.Slot.{Slot}
 use Rattle.engine.specs.declared.state.State.{State}
 use Rattle.engine.specs.declared.state.Record.{Record}
-use Rattle.engine.proofs.Rooms.{event-roomy, tx-roomy}
+use Rattle.engine.proofs.Rooms.{event-roomy}
 use Rattle.engine.proofs.Sounds.{sound-of}
 use Rattle.reporting.specs.Reporting.{ReportOutcome, sentState, sentStatus, eventKeeper, reportRule}
 use Rattle.sending.specs.Events.{noEvent, eventFree, readEventRule, AcknowledgeOutcome, acknowledgeEventRule, releasedEvents}
 use Rattle.sending.proofs.Changes.{refused-leaves-all}
 use Rattle.ledger.specs.Ledgers.{noteArrival, noteRelease, expectSlot, entryAt}
-use Rattle.ledger.specs.Standing.{KeptOutside}
-use Rattle.ledger.proofs.Arrivals.{arrival-slot, arrival-told, arrival-holds}
-use Rattle.ledger.proofs.Balances.{arrival-balanced, release-balanced}
-use Rattle.ledger.proofs.Releases.{release-test, release-holds, release-told}
-use Rattle.ledger.proofs.Seen.{seen-words}
+use Rattle.ledger.specs.Histories.{noted}
+use Rattle.ledger.specs.Standing.{RingAgrees}
+use Rattle.ledger.proofs.Arrivals.{arrival-told, arrival-agrees}
+use Rattle.ledger.proofs.Releases.{release-told, release-agrees}
+use Rattle.ledger.proofs.Seen.{words-told}
 use Rattle.ledger.proofs.Stores.{kept-refl}
 use Rattle.requests.specs.Requests
-use Rattle.requests.specs.Requests.{bookReport, noteSent, pendingIn}
+use Rattle.requests.specs.Requests.{noteSent, pendingIn}
 use Rattle.requests.specs.Expected.{expectReport, eventFor}
-use Rattle.requests.specs.Standing.{InStep, Leaves, ReportLeaves, SameBeside}
-use Rattle.requests.proofs.Reporting.{report-told, report-accepted, report-due, report-left}
-use Rattle.requests.proofs.Steps.{told-by, elsewhere-agrees}
-use Rattle.history.specs.Books.{Book, withSending, noted, noteReport}
+use Rattle.requests.specs.Standing.{InStep, Leaves, LeavesTx}
+use Rattle.requests.proofs.Reporting.{report-told, report-accepted, report-due, report-leaves}
+use Rattle.requests.proofs.Steps.{told-by}
+use Rattle.history.specs.Books.{Book, withSending, noteReport}
 use Rattle.history.specs.Expected.{eventRules, expectReadEvent, expectAcknowledgeEvent}
-use Rattle.history.proofs.Agreeing.{RingAgrees, Agreed, ring-elsewhere, sending-agreed}
+use Rattle.history.specs.Standing.{BookAgrees}
+use Rattle.history.proofs.Agreeing.{ring-elsewhere, requests-elsewhere, sending-agreed}
 use Rattle.history.proofs.Elements.{settle-alike, headed-alone}
-use Rattle.history.proofs.Sections.{own}
 
-module _ (began : List ℕ) (b : Book) (s : State) (r : Record) (mem : List ℕ) (fit : unfit s r (length mem) ≡ false) (h : Agreed (s .regs) began b s mem) where
+module _ (began : List ℕ) (b : Book) (s : State) (r : Record) (mem : List ℕ) (fit : unfit s r (length mem) ≡ false) (h : BookAgrees (s .regs) began b s mem) where
   abbrev g : Registers
   g = s .regs
 
@@ -60,11 +60,10 @@ module _ (began : List ℕ) (b : Book) (s : State) (r : Record) (mem : List ℕ)
 
   -- ---- a request, a cancel
 
-  pub leaves-kept : (l : Requests.Book) (next : State) (other : List ℕ) → Leaves s mem l next other → Agreed g began (withSending b (b .events) l) next other
-  leaves-kept l next other v =
-      let kept : KeptOutside (own g 4) mem other = record { size = v .memory .size; outside = v .memory .words } in
-      sending-agreed g began b s mem legal h other 4 (omega arith) (omega arith) kept next (v .state) (b .events) l
-      (rw (v .events) (ring-elsewhere g mem other legal 4 (omega arith) kept 3 (omega arith) (λ e. omega arith) (eventKeeper g) (b .events) (s .events) (h .events)))
+  pub leaves-kept : (l : Requests.Book) (next : State) (other : List ℕ) → LeavesTx s mem l next other → BookAgrees g began (withSending b (b .events) l) next other
+  leaves-kept l next other (v, events) =
+      sending-agreed g began b s mem legal h other 4 (omega arith) (omega arith) (v .memory) next (v .state) (b .events) l
+      (rw events (ring-elsewhere g mem other legal 4 (omega arith) (v .memory) 3 (omega arith) (λ e. omega arith) (eventKeeper g) (b .events) (s .events) (h .events)))
       (v .agrees)
 
   -- ---- a report
@@ -84,35 +83,27 @@ module _ (began : List ℕ) (b : Book) (s : State) (r : Record) (mem : List ℕ)
     abbrev no-event : ReportOutcome
     no-event = record { says = done; state = sentState s buffer; status = sentStatus s r buffer; memory = mem }
 
-    outside : (o : ReportOutcome) → SameBeside (eventArea g) mem (o .memory) → KeptOutside (own g 3) mem (o .memory)
-    outside o v = record { size = v .size; outside = v .words }
-
     -- the event's slot is the one that the book tells
     event-held : RingAgrees (eventKeeper g) (eventArea g) (noteArrival (eventKeeper g) (b .events) ws (expectSlot (eventKeeper g) (b .events))) (kept-event .state .events) (kept-event .memory)
     event-held =
         let k = eventKeeper g in
-        let x = h .events in
         let t = sentStatus s r buffer in
         subst (λ (slot : Slot). RingAgrees k (eventArea g) (noteArrival k (b .events) ws slot) (kept-event .state .events) (kept-event .memory))
-        (arrival-slot k (eventArea g) (b .events) (s .events) mem (x .holds) t (x .told))
-        (record {
-          holds = arrival-holds k (eventArea g) (b .events) (s .events) mem (x .holds) t ws refl;
-          told = arrival-told k (eventArea g) (b .events) (s .events) mem (x .holds) t (x .told) ws;
-          balanced = arrival-balanced (b .events) (x .balanced) k ws (keepRule k (s .events) t .slot);
-        })
+        (arrival-told k (eventArea g) (b .events) (s .events) mem (h .events) t)
+        (arrival-agrees k (eventArea g) (b .events) (s .events) mem (h .events) t ws refl)
 
     abbrev due : Bool → ReportOutcome
     due t = pick t kept-event no-event
 
-    accepted : (t : Bool) → ReportLeaves s mem (bookReport l buffer (due t .says)) (due t .state) (due t .memory)
-        → Agreed g began (noted b (λ x. withSending b (pick t (noteArrival (eventKeeper g) (b .events) ws (expectSlot (eventKeeper g) (b .events))) (b .events)) (noteSent l buffer)) (due t .says)) (due t .state) (due t .memory)
+    accepted : (t : Bool) → Leaves (eventArea g) s mem (noted l (λ x. noteSent l buffer) (due t .says)) (due t .state) (due t .memory)
+        → BookAgrees g began (noted b (λ x. withSending b (pick t (noteArrival (eventKeeper g) (b .events) ws (expectSlot (eventKeeper g) (b .events))) (b .events)) (noteSent l buffer)) (due t .says)) (due t .state) (due t .memory)
     accepted true v =
-        sending-agreed g began b s mem legal h (kept-event .memory) 3 (omega arith) (omega arith) (outside kept-event (v .memory)) (kept-event .state) (v .state) _ (noteSent l buffer) event-held (v .agrees)
+        sending-agreed g began b s mem legal h (kept-event .memory) 3 (omega arith) (omega arith) (v .memory) (kept-event .state) (v .state) _ (noteSent l buffer) event-held (v .agrees)
     accepted false v =
-        sending-agreed g began b s mem legal h mem 3 (omega arith) (omega arith) (outside no-event (v .memory)) (no-event .state) (v .state) (b .events) (noteSent l buffer) (h .events) (v .agrees)
+        sending-agreed g began b s mem legal h mem 3 (omega arith) (omega arith) (v .memory) (no-event .state) (v .state) (b .events) (noteSent l buffer) (h .events) (v .agrees)
 
     abbrev Left : ReportOutcome → Type 0
-    Left o = Agreed g began (noted b (λ t. noteReport g b buffer passive time) (o .says)) (o .state) (o .memory)
+    Left o = BookAgrees g began (noted b (λ t. noteReport g b buffer passive time) (o .says)) (o .state) (o .memory)
 
     pub report-kept : Left (reportRule s r mem buffer passive time)
     report-kept = go (expectReport g l buffer) refl
@@ -123,11 +114,11 @@ module _ (began : List ℕ) (b : Book) (s : State) (r : Record) (mem : List ℕ)
             let due = report-due l s r mem in-step buffer passive time best in
             subst Left (sym due)
             (accepted (pendingIn l buffer .wish)
-            (subst (λ (o : ReportOutcome). ReportLeaves s mem (bookReport l buffer (o .says)) (o .state) (o .memory)) due (report-left l s r mem in-step buffer passive time)))
+            (subst (λ (o : ReportOutcome). Leaves (eventArea g) s mem (noted l (λ x. noteSent l buffer) (o .says)) (o .state) (o .memory)) due (report-leaves l s r mem in-step buffer passive time)))
         go (refuses n) e =
             let says = report-told l s r mem in-step buffer passive time ∙ e in
             let same = refused-leaves-all s r mem .report buffer passive time n says in
-            subst (λ (x : Says (Unit {0})). Agreed g began (noted b (λ t. noteReport g b buffer passive time) x) (reportRule s r mem buffer passive time .state) (reportRule s r mem buffer passive time .memory)) (sym says)
+            subst (λ (x : Says (Unit {0})). BookAgrees g began (noted b (λ t. noteReport g b buffer passive time) x) (reportRule s r mem buffer passive time .state) (reportRule s r mem buffer passive time .memory)) (sym says)
             (rw (same .0, same .2) h)
 
   -- ---- an event
@@ -136,7 +127,7 @@ module _ (began : List ℕ) (b : Book) (s : State) (r : Record) (mem : List ℕ)
     event-ruled : first (refuseIf (noEvent s place) 23 ∷ refuseIf (eventFree s place) 29 ∷ []) ≡ eventRules g b place
     event-ruled =
         ap (λ (u : Bool). first (refuseIf (noEvent s place) 23 ∷ refuseIf (not u) 29 ∷ []))
-        (release-test (eventKeeper g) (eventArea g) (b .events) (s .events) mem (h .events .holds) place)
+        (release-told (eventKeeper g) (eventArea g) (b .events) (s .events) mem (h .events) place)
 
     pub acknowledge-event-told : acknowledgeEventRule s r (length mem) place .says ≡ expectAcknowledgeEvent g b place
     unfolding acknowledgeEventRule expectAcknowledgeEvent
@@ -145,7 +136,7 @@ module _ (began : List ℕ) (b : Book) (s : State) (r : Record) (mem : List ℕ)
         ∙ ap (λ (v : Ruling ℕ). settle v done refuses) event-ruled
 
     abbrev Acknowledged : AcknowledgeOutcome → Type 0
-    Acknowledged o = Agreed g began (noted b (λ t. withSending b (noteRelease (b .events) place) (b .requests)) (o .says)) (o .state) mem
+    Acknowledged o = BookAgrees g began (noted b (λ t. withSending b (noteRelease (b .events) place) (b .requests)) (o .says)) (o .state) mem
 
     pub acknowledge-event-kept : Acknowledged (acknowledgeEventRule s r (length mem) place)
     unfolding acknowledgeEventRule
@@ -153,18 +144,12 @@ module _ (began : List ℕ) (b : Book) (s : State) (r : Record) (mem : List ℕ)
         settled Acknowledged (first (refuseIf (unfit s r (length mem)) 20 ∷ refuseIf (noEvent s place) 23 ∷ refuseIf (eventFree s place) 29 ∷ []))
         (record { says = done; state = releasedEvents s place }) (λ n. record { says = refuses n; state = s }) (λ n. h)
         (λ e. let p = all-three (unfit s r (length mem)) (noEvent s place) (eventFree s place) 20 23 29 e in
-        let k = eventKeeper g in
-        let x = h .events in
         let here = not-false (held (s .events) (eventSize g) place) (p .2) in
         sending-agreed g began b s mem legal h mem 3 (omega arith) (omega arith) (kept-refl (eventArea g) mem) (releasedEvents s place)
         (record { regs = refl; fifo0 = refl; fifo1 = refl; newdata = refl })
         (noteRelease (b .events) place) (b .requests)
-        (record {
-          holds = release-holds k (eventArea g) (b .events) (s .events) mem (x .holds) place here;
-          told = release-told k (eventArea g) (b .events) (s .events) mem (x .holds) place here (x .told);
-          balanced = release-balanced (b .events) (x .balanced) place;
-        })
-        (elsewhere-agrees g (b .requests) s (releasedEvents s place) mem mem refl refl (tx-roomy g (length mem) legal) (record { size = refl; words = λ k n. refl }) (h .requests)))
+        (release-agrees (eventKeeper g) (eventArea g) (b .events) (s .events) mem (h .events) place here)
+        (requests-elsewhere g mem mem legal 3 (omega arith) (kept-refl (eventArea g) mem) (omega arith) (b .requests) s (releasedEvents s place) refl refl (h .requests)))
 
     pub read-event-told : readEventRule s r mem place ≡ expectReadEvent g b place
     unfolding readEventRule expectReadEvent
@@ -183,4 +168,4 @@ module _ (began : List ℕ) (b : Book) (s : State) (r : Record) (mem : List ℕ)
             let here = not-false (held (s .events) (eventSize g) place) (held-off (eventFree s place) 29 (q .0)) in
             ap answers
             (headed-alone mem (eventArea g) place (entryAt place (b .events .held) .words) (event-roomy g (length mem) legal) (leb-false (eventSize g) place (held-off (noEvent s place) 23 (p .0)))
-            (seen-words (eventKeeper g) (eventArea g) (b .events) (s .events) mem (h .events .holds) place here) eventHeaderIn)
+            (words-told (eventKeeper g) (eventArea g) (b .events) (s .events) mem (h .events) place here) eventHeaderIn)

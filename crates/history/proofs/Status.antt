@@ -29,17 +29,19 @@ use Rattle.engine.proofs.Sounds.{sound-of}
 use Rattle.receiving.specs.Fifos.{keeperOf}
 use Rattle.reporting.specs.Reporting.{eventKeeper}
 use Rattle.ledger.specs.Ledgers.{Ledger}
-use Rattle.ledger.proofs.Seen.{oldest-in-turn, seen-fill, seen-oldest}
-use Rattle.requests.specs.Lists.{tally, All}
+use Rattle.ledger.specs.Standing.{RingAgrees}
+use Rattle.ledger.proofs.Seen.{oldest-told}
+use Rattle.ledger.proofs.Turns.{oldest-in-turn}
+use Rattle.ledger.specs.Lists.{tally, Each}
 use Rattle.requests.specs.Balance.{isShared}
 use Rattle.requests.specs.Requests
 use Rattle.requests.specs.Requests.{Entry, isBuffer}
-use Rattle.requests.specs.Standing.{Agrees, Stands}
-use Rattle.requests.proofs.Lists.{length-those, all-map}
+use Rattle.requests.specs.Standing.{TxAgrees, InTxBuffer}
+use Rattle.ledger.proofs.Lists.{length-those, each-map}
 use Rattle.requests.proofs.Steps.{told-by}
 use Rattle.history.specs.Books.{Book, fifoLedger}
 use Rattle.history.specs.Expected.{ringOf, sharedOf, expectStatus}
-use Rattle.history.proofs.Agreeing.{RingAgrees, Agreed}
+use Rattle.history.specs.Standing.{BookAgrees}
 
 -- ---- how many are pending
 
@@ -68,7 +70,7 @@ one-in e es (suc n) h = go (eqb (e .buffer) n) refl (one-in e es n)
     go true p below = omega (arith, one-past e es n (omega (arith, eqb-true (e .buffer) n p)))
     go false p below = omega (arith, below (omega (arith, eqb-false (e .buffer) n p)))
 
-all-in : (es : List Entry) (n : ℕ) → All (λ (e : Entry). e .buffer < n) es → inBuffers es n ≡ length es
+all-in : (es : List Entry) (n : ℕ) → Each (λ (e : Entry). e .buffer < n) es → inBuffers es n ≡ length es
 all-in [] n h = none-in n
 all-in (e ∷ es) n h = one-in e es n (h .0) ∙ ap suc (all-in es n (h .1))
 
@@ -85,19 +87,19 @@ bits-in w es bits (suc n) = go (isSet w n) refl (bits-in w es bits n)
 
 ring-told : (k : Keeper) (a : Area) (l : Ledger) (q : Ring) (mem : List ℕ) → RingAgrees k a l q mem → ringStatus q (k .size) ≡ ringOf k l
 ring-told k a l q mem x =
-    let f = seen-fill k a l q mem (x .holds) in
-    let o = seen-oldest k a l q mem (x .holds) (x .told) (x .balanced) in
-    let p = x .told in
+    let f = x .holds .fill in
+    let o = oldest-told k a l q mem x in
+    let p = x .put in
     cc
 
-module _ (g : Registers) (l : Requests.Book) (s : State) (mem : List ℕ) (h : Agrees g l s mem) where
+module _ (g : Registers) (l : Requests.Book) (s : State) (mem : List ℕ) (h : TxAgrees g l s mem) where
   waiting-asked : tally (isShared g) (l .pending) ≤ tally (isShared g) (l .requested)
   waiting-asked = omega (arith, h .balanced .whole (isShared g))
 
   pending-told : howMany (isSet (s .pending)) (txCount g) ≡ length (l .pending)
   pending-told =
       bits-in (s .pending) (l .pending) (h .holds .bits) (txCount g)
-      ∙ all-in (l .pending) (txCount g) (all-map (Stands g mem) (λ (e : Entry). e .buffer < txCount g) (l .pending) (λ e t. t .buffer) (h .holds .stands))
+      ∙ all-in (l .pending) (txCount g) (each-map (InTxBuffer g mem) (λ (e : Entry). e .buffer < txCount g) (l .pending) (λ e t. t .buffer) (h .holds .stands))
 
   -- in FIFO mode the requests tell the ring
   fifo-told : isQueue g ≡ false → ringStatus (s .shared) (shared g)
@@ -110,7 +112,7 @@ module _ (g : Registers) (l : Requests.Book) (s : State) (mem : List ℕ) (h : A
       let p = c .next in
       cc
 
-shared-told : (g : Registers) (b : Book) (s : State) (mem : List ℕ) → Agrees g (b .requests) s mem → ringStatus (s .shared) (sharedRingSize g) ≡ sharedOf g b
+shared-told : (g : Registers) (b : Book) (s : State) (mem : List ℕ) → TxAgrees g (b .requests) s mem → ringStatus (s .shared) (sharedRingSize g) ≡ sharedOf g b
 unfolding sharedRingSize placeAfter
 shared-told g b s mem h = go (isQueue g) refl
   where
@@ -127,7 +129,7 @@ shared-told g b s mem h = go (isQueue g) refl
         none = refl
     go false e = fifo-told g (b .requests) s mem h e
 
-pub status-told : (began : List ℕ) (b : Book) (s : State) (r : Record) (mem : List ℕ) → unfit s r (length mem) ≡ false → Agreed (s .regs) began b s mem
+pub status-told : (began : List ℕ) (b : Book) (s : State) (r : Record) (mem : List ℕ) → unfit s r (length mem) ≡ false → BookAgrees (s .regs) began b s mem
     → statusRule s r (length mem) ≡ answers (expectStatus (s .regs) b)
 unfolding statusRule fifoRing fifoLedger
 status-told began b s r mem fit h =

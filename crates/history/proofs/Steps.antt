@@ -19,7 +19,8 @@ use Rattle.engine.specs.States.{emptyState}
 use Rattle.engine.specs.declared.state.State.{State}
 use Rattle.sending.specs.Cancelling.{cancelRule}
 use Rattle.sending.specs.Requesting.{dedicatedRule, sharedRule}
-use Rattle.requests.specs.Requests.{bookRequest, bookCancel}
+use Rattle.ledger.specs.Histories.{noted}
+use Rattle.requests.specs.Requests.{noteRequest, noteCancel}
 use Rattle.requests.proofs.Choosing.{choice-told}
 use Rattle.requests.proofs.Requesting.{dedicated-told, dedicated-leaves, shared-told, shared-leaves, cancel-told, cancel-leaves}
 use Rattle.requests.proofs.Reporting.{report-told}
@@ -31,7 +32,7 @@ use Rattle.handler.proofs.StillFit.{fit-after-any-calls}
 use Rattle.history.specs.Books.{Book, requestOf, note}
 use Rattle.history.specs.Demand3.{InRun}
 use Rattle.history.specs.Expected.{expect}
-use Rattle.history.proofs.Agreeing.{Agreed}
+use Rattle.history.specs.Standing.{BookAgrees}
 use Rattle.history.proofs.Receiving.{receive-told, receive-kept, acknowledge-told, acknowledge-kept, read-fifo-told, release-buffer-told, release-buffer-kept, read-buffer-told}
 use Rattle.history.proofs.Sending.{in-step, leaves-kept, report-kept, acknowledge-event-told, acknowledge-event-kept, read-event-told}
 use Rattle.history.proofs.Status.{status-told}
@@ -39,9 +40,9 @@ use Rattle.history.proofs.Status.{status-told}
 -- a fit world that the book agrees with
 pub record Standing (g : Registers) (began : List ℕ) (b : Book) (w : World) : Type 0 where
   pub fit : IsFit w
-  pub agreed : Agreed g began b (w .state) (w .memory)
+  pub agreed : BookAgrees g began b (w .state) (w .memory)
 
-module _ (began : List ℕ) (b : Book) (w : World) (fit : IsFit w) (h : Agreed (w .state .regs) began b (w .state) (w .memory)) where
+module _ (began : List ℕ) (b : Book) (w : World) (fit : IsFit w) (h : BookAgrees (w .state .regs) began b (w .state) (w .memory)) where
   told-here : (c : Call) → step w c .0 ≡ expect (w .state .regs) began b c
   unfolding step startRule clearRule
   told-here (start g) = ap (λ (n : ℕ). record { says = verdict memoryWords g n; sections = reported (verdict memoryWords g n) g }) (h .size)
@@ -66,12 +67,12 @@ module _ (began : List ℕ) (b : Book) (w : World) (fit : IsFit w) (h : Agreed (
 
   -- a start that is refused keeps the state
   refused-kept : (g : Registers) → isAllowed (verdict memoryWords g (length began)) ≡ false
-      → Agreed (w .state .regs) began b (settle (verdict memoryWords g (length (w .memory))) (emptyState g) (λ n. w .state)) (w .memory)
+      → BookAgrees (w .state .regs) began b (settle (verdict memoryWords g (length (w .memory))) (emptyState g) (λ n. w .state)) (w .memory)
   refused-kept g e =
-      subst (λ (s : State). Agreed (w .state .regs) began b s (w .memory))
+      subst (λ (s : State). BookAgrees (w .state .regs) began b s (w .memory))
       (sym (settle-refused (verdict memoryWords g (length (w .memory))) (emptyState g) (w .state) (rw (h .size) e))) h
 
-  kept-here : (c : Call) → InRun (length began) c → Agreed (w .state .regs) began (note (w .state .regs) b c (step w c .0)) (step w c .1 .state) (step w c .1 .memory)
+  kept-here : (c : Call) → InRun (length began) c → BookAgrees (w .state .regs) began (note (w .state .regs) b c (step w c .0)) (step w c .1 .state) (step w c .1 .memory)
   unfolding step startRule
   kept-here (start g) i = refused-kept g i
   kept-here (receive f d time) i = receive-kept began b (w .state) (w .status) (w .memory) fit h f d time
@@ -81,15 +82,15 @@ module _ (began : List ℕ) (b : Book) (w : World) (fit : IsFit w) (h : Agreed (
   kept-here (releaseBuffer buffer) i = release-buffer-kept began b (w .state) (w .status) (w .memory) fit h buffer
   kept-here (requestDedicated buffer f d marker wish) i =
       let o = dedicatedRule (w .state) (w .status) (w .memory) buffer f d marker wish in
-      leaves-kept began b (w .state) (w .status) (w .memory) fit h (bookRequest (b .requests) (requestOf f d marker wish) (o .says)) (o .state) (o .memory)
+      leaves-kept began b (w .state) (w .status) (w .memory) fit h (noted (b .requests) (noteRequest (b .requests) (requestOf f d marker wish)) (o .says)) (o .state) (o .memory)
       (dedicated-leaves (b .requests) (w .state) (w .status) (w .memory) (in-step began b (w .state) (w .status) (w .memory) fit h) buffer (requestOf f d marker wish) i)
   kept-here (requestShared f d marker wish) i =
       let o = sharedRule (w .state) (w .status) (w .memory) f d marker wish in
-      leaves-kept began b (w .state) (w .status) (w .memory) fit h (bookRequest (b .requests) (requestOf f d marker wish) (o .says)) (o .state) (o .memory)
+      leaves-kept began b (w .state) (w .status) (w .memory) fit h (noted (b .requests) (noteRequest (b .requests) (requestOf f d marker wish)) (o .says)) (o .state) (o .memory)
       (shared-leaves (b .requests) (w .state) (w .status) (w .memory) (in-step began b (w .state) (w .status) (w .memory) fit h) (requestOf f d marker wish) i)
   kept-here (cancel buffer) i =
       let o = cancelRule (w .state) (w .status) (length (w .memory)) buffer in
-      leaves-kept began b (w .state) (w .status) (w .memory) fit h (bookCancel (b .requests) buffer (o .says)) (o .state) (w .memory)
+      leaves-kept began b (w .state) (w .status) (w .memory) fit h (noted (b .requests) (λ t. noteCancel (b .requests) buffer) (o .says)) (o .state) (w .memory)
       (cancel-leaves (b .requests) (w .state) (w .status) (w .memory) (in-step began b (w .state) (w .status) (w .memory) fit h) buffer)
   kept-here (askChoice passive out) i = h
   kept-here (reportSent buffer passive time) i = report-kept began b (w .state) (w .status) (w .memory) fit h buffer passive time
@@ -100,8 +101,8 @@ module _ (began : List ℕ) (b : Book) (w : World) (fit : IsFit w) (h : Agreed (
 
 module _ (g : Registers) (began : List ℕ) (b : Book) (w : World) (h : Standing g began b w) where
   -- the book goes by the state's own registers, which are those of the start
-  own-agreed : Agreed (w .state .regs) began b (w .state) (w .memory)
-  own-agreed = subst (λ (x : Registers). Agreed x began b (w .state) (w .memory)) (sym (h .agreed .regs)) (h .agreed)
+  own-agreed : BookAgrees (w .state .regs) began b (w .state) (w .memory)
+  own-agreed = subst (λ (x : Registers). BookAgrees x began b (w .state) (w .memory)) (sym (h .agreed .regs)) (h .agreed)
 
   pub told : (c : Call) → step w c .0 ≡ expect g began b c
   told c = subst (λ (x : Registers). step w c .0 ≡ expect x began b c) (h .agreed .regs) (told-here began b w (h .fit) own-agreed c)
@@ -110,6 +111,6 @@ module _ (g : Registers) (began : List ℕ) (b : Book) (w : World) (h : Standing
   kept c i = record {
     fit = fit-after-any-calls (c ∷ []) w (h .fit);
     agreed =
-        subst (λ (x : Registers). Agreed x began (note x b c (step w c .0)) (step w c .1 .state) (step w c .1 .memory)) (h .agreed .regs)
+        subst (λ (x : Registers). BookAgrees x began (note x b c (step w c .0)) (step w c .1 .state) (step w c .1 .memory)) (h .agreed .regs)
         (kept-here began b w (h .fit) own-agreed c i);
   }

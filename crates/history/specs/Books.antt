@@ -9,20 +9,20 @@ use Rattle.registers.specs.declared.Registers.{Registers}
 use Rattle.frame.specs.declared.Frame.{Frame}
 use Rattle.frame.specs.declared.Matched.the-variants.{Filter}
 use Rattle.element.specs.Elements.{rxElement}
-use Rattle.engine.specs.Answers.{Says, refuses, answers}
 use Rattle.engine.specs.Areas.{fifoArea, bufferArea, dataWords}
 use Rattle.engine.specs.declared.keeping.Slot.the-variants.{At, Lost}
 use Rattle.receiving.specs.Fifos.{keeperOf}
 use Rattle.receiving.specs.Receive.{Fate, stored, storedBuffer, lostTo, dropped}
 use Rattle.reporting.specs.Reporting.{eventKeeper}
 use Rattle.ledger.specs.Ledgers.{Ledger, emptyLedger, noteArrival, noteRelease, expectSlot}
+use Rattle.ledger.specs.Histories.{noted}
 use Rattle.requests.specs.Requests
-use Rattle.requests.specs.Requests.{Request, bookRequest, bookCancel, noteSent, pendingIn}
+use Rattle.requests.specs.Requests.{Request, noteRequest, noteCancel, noteSent, pendingIn}
 use Rattle.requests.specs.Expected.{eventFor}
 use Rattle.handler.specs.Calls.{Call, start, receive, readFifo, acknowledgeFifo, readBuffer, releaseBuffer, requestDedicated, requestShared, cancel, askChoice, reportSent, readEvent, acknowledgeEvent, clearFlags, status, Answer}
 
 -- a frame that was stored in an Rx buffer: the words of its element
-pub record InBuffer : Type 0 where
+pub record InRxBuffer : Type 0 where
   pub buffer : ℕ
   pub words : List ℕ
 
@@ -35,13 +35,13 @@ pub record Book : Type 0 where
   -- bit n: something was stored in Rx buffer n and has not been released
   pub newdata : ℕ
   -- all that was stored in an Rx buffer, the latest first
-  pub buffered : List InBuffer
+  pub buffered : List InRxBuffer
 
 abbrev pub emptyBook : Book
 emptyBook = record { fifo0 = emptyLedger; fifo1 = emptyLedger; events = emptyLedger; requests = Requests.emptyBook; newdata = 0; buffered = [] }
 
 -- what was last stored in an Rx buffer
-unfoldable pub lastIn : ℕ → List InBuffer → List ℕ
+unfoldable pub lastIn : ℕ → List InRxBuffer → List ℕ
 lastIn buffer [] = []
 lastIn buffer (e ∷ es) = pick (eqb (e .buffer) buffer) (e .words) (lastIn buffer es)
 
@@ -70,7 +70,7 @@ withSending b events requests = record {
   buffered = b .buffered;
 }
 
-abbrev pub withBuffers : Book → ℕ → List InBuffer → Book
+abbrev pub withBuffers : Book → ℕ → List InRxBuffer → Book
 withBuffers b newdata buffered = record {
   fifo0 = b .fifo0;
   fifo1 = b .fifo1;
@@ -81,11 +81,6 @@ withBuffers b newdata buffered = record {
 }
 
 -- ---- what an answer adds
-
--- a refused call adds nothing
-abbrev pub noted : {A : Type 0} → Book → (A → Book) → Says A → Book
-noted b next (answers a) = next a
-noted b next (refuses n) = b
 
 -- a received frame: held in a FIFO at a place, lost to a FIFO, stored in an Rx buffer, or discarded
 abbrev pub noteFate : Registers → Book → Frame → List ℕ → ℕ → Fate → Book
@@ -116,9 +111,9 @@ note g b (readFifo fifo place out) a = b
 note g b (acknowledgeFifo fifo place) a = noted b (λ t. withFifoLedger b fifo (noteRelease (fifoLedger b fifo) place)) a
 note g b (readBuffer buffer out) a = b
 note g b (releaseBuffer buffer) a = noted b (λ t. withBuffers b (withoutBit 64 (b .newdata) buffer) (b .buffered)) a
-note g b (requestDedicated buffer f d marker wish) a = withSending b (b .events) (bookRequest (b .requests) (requestOf f d marker wish) a)
-note g b (requestShared f d marker wish) a = withSending b (b .events) (bookRequest (b .requests) (requestOf f d marker wish) a)
-note g b (cancel buffer) a = withSending b (b .events) (bookCancel (b .requests) buffer a)
+note g b (requestDedicated buffer f d marker wish) a = withSending b (b .events) (noted (b .requests) (noteRequest (b .requests) (requestOf f d marker wish)) a)
+note g b (requestShared f d marker wish) a = withSending b (b .events) (noted (b .requests) (noteRequest (b .requests) (requestOf f d marker wish)) a)
+note g b (cancel buffer) a = withSending b (b .events) (noted (b .requests) (λ t. noteCancel (b .requests) buffer) a)
 note g b (askChoice passive out) a = b
 note g b (reportSent buffer passive time) a = noted b (λ t. noteReport g b buffer passive time) a
 note g b (readEvent place) a = b

@@ -1,38 +1,25 @@
 -- Demand 3: nothing vanishes and nothing counts twice. Statements only.
-use Prim.Native.Nat.{ℕ, _≤_, _<_}
+use Prim.Native.Nat.{ℕ}
 use mathlib.Core.Path.{_≡_}
-use mathlib.Core.Bool.{Bool, true, false}
+use mathlib.Core.Bool.{Bool, false}
 use mathlib.Core.List.{List}
-use lib.ListN.{length, getD}
+use lib.ListN.{length}
 use Rattle.words.specs.Best.{somebody}
-use Rattle.words.specs.Bits.{isSet}
 use Rattle.words.specs.Rules.{allowed, refused, isAllowed}
-use Rattle.ring.specs.declared.Ring.{Ring}
 use Rattle.registers.specs.declared.Registers.{Registers}
-use Rattle.layout.specs.Legal.{Has}
 use Rattle.layout.specs.Sections.{memoryWords}
 use Rattle.layout.specs.Verdict.{verdict}
 use Rattle.filter.specs.Promises.{SameSection}
 use Rattle.filter.specs.Search.{listOf}
 use Rattle.engine.specs.Answers.{wrongOutput}
-use Rattle.engine.specs.Areas.{fifoArea, bufferArea, eventArea}
-use Rattle.engine.specs.States.{fifoRing}
-use Rattle.engine.specs.declared.areas.Area.{Area}
-use Rattle.engine.specs.declared.keeping.Keeper.{Keeper}
-use Rattle.receiving.specs.Fifos.{keeperOf}
-use Rattle.reporting.specs.Reporting.{eventKeeper}
 use Rattle.ledger.specs.Lists.{Each}
-use Rattle.ledger.specs.Ledgers.{Ledger}
-use Rattle.ledger.specs.Balance
-use Rattle.ledger.specs.Standing.{Holds, elementAt}
 use Rattle.ledger.specs.Histories.{trace, after, book, foretold}
 use Rattle.requests.specs.Requests.{Typed}
-use Rattle.requests.specs.Balance.{EachOnce}
-use Rattle.requests.specs.Standing.{Agrees}
 use Rattle.requests.specs.Expected.{nextOf}
 use Rattle.handler.specs.Calls.{World, Call, start, receive, readFifo, acknowledgeFifo, readBuffer, releaseBuffer, requestDedicated, requestShared, cancel, askChoice, reportSent, readEvent, acknowledgeEvent, clearFlags, status, refusal}
 use Rattle.handler.specs.Steps.{step}
-use Rattle.history.specs.Books.{Book, emptyBook, fifoLedger, lastIn, requestOf, note}
+use Rattle.history.specs.Books.{Book, emptyBook, requestOf, note}
+use Rattle.history.specs.Standing.{BookAgrees}
 use Rattle.history.specs.Expected.{expect}
 
 -- ---- the runs
@@ -75,27 +62,9 @@ bookOf r = book (note (r .regs)) emptyBook (trace step (began r) (r .calls))
 
 -- ---- what is true after every run
 
--- of a ring of elements: every one that arrived is exactly once released, held or lost, in order; those held stand in the memory word for word
-pub record RingKept (k : Keeper) (a : Area) (l : Ledger) (q : Ring) (mem : List ℕ) : Type 0 where
-  pub balanced : Balance.Balanced l
-  pub holds : Holds k a (l .held) q mem
-
-pub record NothingVanishes (g : Registers) (start : List ℕ) (b : Book) (w : World) : Type 0 where
-  -- every frame sent to a FIFO
-  pub fifos : (fifo : ℕ) → fifo ≤ 1 → RingKept (keeperOf g fifo) (fifoArea g fifo) (fifoLedger b fifo) (fifoRing (w .state) fifo) (w .memory)
-  -- every event due
-  pub events : RingKept (eventKeeper g) (eventArea g) (b .events) (w .state .events) (w .memory)
-  -- every accepted request is exactly once pending, sent or cancelled; those pending are the pending bits and stand in their buffers word for word; a shared FIFO's are sent in order
-  pub requests : Agrees g (b .requests) (w .state) (w .memory)
-  pub once : EachOnce (b .requests)
-  -- what an Rx buffer holds
-  pub newdata : w .state .newdata ≡ b .newdata
-  pub buffers : (n : ℕ) → isSet (b .newdata) n ≡ true → elementAt (bufferArea g) n (w .memory) ≡ lastIn n (b .buffered)
-  -- every word that is not of the FIFOs, Rx buffers, events or Tx buffers is as it was at the start
-  pub rest : (k : ℕ) → ((i : ℕ) → 2 ≤ i → i < 7 → Has g i k → ⊥) → getD (w .memory) k 0 ≡ getD start k 0
-
+-- the world holds exactly what the book says
 abbrev pub Demand3 : Type 0
-Demand3 = (r : Run) → NothingVanishes (r .regs) (r .before .memory) (bookOf r) (now r)
+Demand3 = (r : Run) → BookAgrees (r .regs) (r .before .memory) (bookOf r) (now r .state) (now r .memory)
 
 -- every answer of every call can be told from the history, the inputs and the start
 abbrev pub Answers : Type 0

@@ -29,7 +29,7 @@ use Rattle.receiving.specs.Receive.{Fate, storedBuffer, dropped, slotSays}
 use Rattle.taking.specs.Reading.{ReadOutcome, unread}
 use Rattle.reporting.specs.Reporting.{eventKeeper}
 use Rattle.ledger.specs.Ledgers.{Ledger, entryAt, isHeldAt, expectPut, expectOldest, expectSlot}
-use Rattle.requests.specs.Lists.{tally}
+use Rattle.ledger.specs.Lists.{tally}
 use Rattle.requests.specs.Balance.{isShared}
 use Rattle.requests.specs.Expected.{expectDedicated, expectShared, expectCancel, expectChoice, expectReport}
 use Rattle.handler.specs.Calls.{Call, start, receive, readFifo, acknowledgeFifo, readBuffer, releaseBuffer, requestDedicated, requestShared, cancel, askChoice, reportSent, readEvent, acknowledgeEvent, clearFlags, status, Answer}

@@ -1,3 +1,4 @@
 pub mod Books
+pub mod Standing
 pub mod Expected
 pub mod Demand3

@@ -1,10 +1,10 @@
 -- A new element: the book tells its slot, and the ring holds what the book says of it.
 -- Assumes nothing.
-use Prim.Native.Nat.{ℕ, _+_, _-_, _%_, _≤_, _<_}
+use Prim.Native.Nat.{ℕ, _+_, _-_, _≤_, _<_}
 use mathlib.Core.Path.{_≡_, refl, sym, ap, _∙_, subst}
 use mathlib.Core.Bool.{Bool, true, false, not, _&&_, _||_, or-true, and-false}
 use mathlib.Core.List.{List, [], _∷_, _++_}
-use native.Mathlib.Nat.{mod-add-mod, add-zero, add-comm}
+use native.Mathlib.Nat.{add-zero, add-comm}
 use native.Mathlib.Omega.{arith}
 use lib.Dec.{eqb, ltb}
 use lib.ListN.{length, drop}
@@ -24,16 +24,20 @@ use Rattle.engine.specs.declared.keeping.Slot.the-variants.{At, Lost}
 use Rattle.engine.specs.declared.state.Record.{Record}
 use Rattle.engine.proofs.Keeps.{keep-put, keep-none, keep-blocked, keep-over}
 use Rattle.ledger.specs.Ledgers.{Ledger, newEntry, isFull, isBlocking, noteArrival, storedSoFar, expectPut, expectSlot}
-use Rattle.ledger.specs.Standing.{KeptOutside, Holds, Told}
-use Rattle.ledger.proofs.Tallies.{tally-one, tally-append}
+use Rattle.ledger.specs.Memory.{KeptOutside}
+use Rattle.ledger.specs.Standing.{Holds, PutAgrees}
+use Rattle.ledger.specs.Promises.{ArrivalTold, ArrivalAgrees, ArrivalKeeps}
+use Rattle.ledger.proofs.Balances.{arrival-balances}
+use Rattle.ledger.proofs.Lists.{tally-one, tally-append}
+use Rattle.ledger.proofs.Turns.{next-in-turn}
 use Rattle.ledger.proofs.Stores.{kept-refl, store-kept}
 use Rattle.ledger.proofs.Holding.{fewer-hold, more-hold}
 
 -- the rule's three outcomes
-abbrev pub putting : Keeper → Ring → Record → Kept
+abbrev putting : Keeper → Ring → Record → Kept
 putting k q r = record { slot = At (putPlace q (k .size)); ring = pushed q; status = filling r (k .first) (q .fill + 1) (k .mark) (k .size) }
 
-abbrev pub overwriting : Keeper → Ring → Record → Kept
+abbrev overwriting : Keeper → Ring → Record → Kept
 overwriting k q r = record { slot = At (q .oldest); ring = overwritten q (k .size); status = raised r (k .first) }
 
 -- what is true of each of the three where it is the outcome is true of the rule
@@ -41,7 +45,7 @@ module _ (k : Keeper) (q : Ring) (r : Record) (G : Kept → Type 0)
     (puts : q .fill < k .size → G (putting k q r))
     (overwrites : k .size ≤ q .fill → 0 < k .size → isBlocking k ≡ false → G (overwriting k q r))
     (loses : k .size ≤ q .fill → isBlocking k ≡ true → G (losing k q r)) where
-  pub by-outcome : G (keepRule k q r)
+  by-outcome : G (keepRule k q r)
   by-outcome = go (ltb (q .fill) (k .size)) (eqb (k .size) 0) (k .overwrites) refl refl refl
     where
       go : (t u v : Bool) → ltb (q .fill) (k .size) ≡ t → eqb (k .size) 0 ≡ u → k .overwrites ≡ v → G (keepRule k q r)
@@ -62,19 +66,22 @@ module _ (k : Keeper) (q : Ring) (r : Record) (G : Kept → Type 0)
           subst G (keep-blocked k q r m (losing k q r .status) (eqb-false (k .size) 0 f) g refl)
           (loses m (ap (λ (b : Bool). not b || eqb (k .size) 0) g))
 
+-- whatever the slot, no word outside the area changes
+pub arrival-keeps : ArrivalKeeps
+arrival-keeps k a q mem places room fit r ws w =
+    by-outcome k q r (λ x. KeptOutside a mem (slotMemory mem a ws (x .slot)))
+    (λ m. store-kept a mem room (putPlace q (k .size)) (omega (arith, place-lt q (k .size) (q .fill) (omega arith))) ws w)
+    (λ m z b. store-kept a mem room (q .oldest) (omega (arith, fit .place)) ws w)
+    (λ m b. kept-refl a mem)
+
 module _ (k : Keeper) (l : Ledger) where
-  pub expect-lost : isFull k l ≡ true → isBlocking k ≡ true → expectSlot k l ≡ Lost
+  expect-lost : isFull k l ≡ true → isBlocking k ≡ true → expectSlot k l ≡ Lost
   unfolding expectSlot
   expect-lost f b = simp (f, b)
 
-  pub expect-stored : (isFull k l && isBlocking k) ≡ false → expectSlot k l ≡ At (expectPut k l)
+  expect-stored : (isFull k l && isBlocking k) ≡ false → expectSlot k l ≡ At (expectPut k l)
   unfolding expectSlot
   expect-stored e = simp e
-
--- the place after one that is n in turn is n + 1 in turn
-next-in-turn : (q : Ring) (size i n : ℕ) → placeAfter q size i ≡ n % size → placeAfter q size (i + 1) ≡ (n + 1) % size
-unfolding placeAfter
-next-in-turn q size i n e = sym (place-released q size i 1) ∙ rw e (mod-add-mod n size 1)
 
 module _ (k : Keeper) (a : Area) (l : Ledger) (q : Ring) (mem : List ℕ) (h : Holds k a (l .held) q mem) (r : Record) where
   -- full in the book is full in the ring
@@ -84,17 +91,17 @@ module _ (k : Keeper) (a : Area) (l : Ledger) (q : Ring) (mem : List ℕ) (h : H
   is-full : k .size ≤ q .fill → isFull k l ≡ true
   is-full f = eq-eqb (length (l .held)) (k .size) (omega (arith, h .fill, h .ring .room))
 
-  pub arrival-slot : Told k l q → keepRule k q r .slot ≡ expectSlot k l
-  arrival-slot t =
+  slot-told : PutAgrees k l q → keepRule k q r .slot ≡ expectSlot k l
+  slot-told t =
       by-outcome k q r (λ x. x .slot ≡ expectSlot k l)
       (λ m. ap At t ∙ sym (expect-stored k l (rw (not-full m))))
       (λ m z b. ap At (sym (put-full q (k .size) (h .ring) (omega (arith, h .ring .room))) ∙ t) ∙ sym (expect-stored k l (rw (b, and-false))))
       (λ m b. sym (expect-lost k l (is-full m) b))
 
-  pub arrival-told : Told k l q → (ws : List ℕ) → Told k (noteArrival k l ws (keepRule k q r .slot)) (keepRule k q r .ring)
+  put-after : PutAgrees k l q → (ws : List ℕ) → PutAgrees k (noteArrival k l ws (keepRule k q r .slot)) (keepRule k q r .ring)
   unfolding noteArrival
-  arrival-told t ws =
-      by-outcome k q r (λ x. Told k (noteArrival k l ws (x .slot)) (x .ring))
+  put-after t ws =
+      by-outcome k q r (λ x. PutAgrees k (noteArrival k l ws (x .slot)) (x .ring))
       (λ m. rw (tally-append, tally-one, place-pushed) (next-in-turn q (k .size) (q .fill) (storedSoFar l) t))
       (λ m z b. rw (tally-append, tally-one, place-overwritten q (k .size) (q .fill), add-comm 1 (q .fill)) (next-in-turn q (k .size) (q .fill) (storedSoFar l) t))
       (λ m b. rw (tally-append, tally-one, add-zero) t)
@@ -113,17 +120,20 @@ module _ (k : Keeper) (a : Area) (l : Ledger) (q : Ring) (mem : List ℕ) (h : H
         (more-hold k a (drop 1 (l .held)) (released q (k .size) 1) mem (fewer-hold k a (l .held) q mem h 1 (omega arith))
         (newEntry l ws (At (q .oldest))) (omega arith) w (ap At (sym put)))
 
-    pub arrival-holds : Holds k a (noteArrival k l ws (keepRule k q r .slot) .held) (keepRule k q r .ring) (slotMemory mem a ws (keepRule k q r .slot))
+    holds-after : Holds k a (noteArrival k l ws (keepRule k q r .slot) .held) (keepRule k q r .ring) (slotMemory mem a ws (keepRule k q r .slot))
     unfolding noteArrival
-    arrival-holds =
+    holds-after =
         by-outcome k q r (λ x. Holds k a (noteArrival k l ws (x .slot) .held) (x .ring) (slotMemory mem a ws (x .slot)))
         (λ m. rw (not-full m) (more-hold k a (l .held) q mem h (newEntry l ws (At (putPlace q (k .size)))) m w refl))
         (λ m z b. rw (is-full m) (over m z))
         (λ m b. h)
 
-    pub arrival-kept : KeptOutside a mem (slotMemory mem a ws (keepRule k q r .slot))
-    arrival-kept =
-        by-outcome k q r (λ x. KeptOutside a mem (slotMemory mem a ws (x .slot)))
-        (λ m. store-kept a mem (h .room) (putPlace q (k .size)) (omega (arith, h .places, place-lt q (k .size) (q .fill) (omega arith))) ws w)
-        (λ m z b. store-kept a mem (h .room) (q .oldest) (omega (arith, h .places, h .ring .place)) ws w)
-        (λ m b. kept-refl a mem)
+pub arrival-told : ArrivalTold
+arrival-told k a l q mem x r = slot-told k a l q mem (x .holds) r (x .put)
+
+pub arrival-agrees : ArrivalAgrees
+arrival-agrees k a l q mem x r ws w = record {
+  holds = holds-after k a l q mem (x .holds) r ws w;
+  put = put-after k a l q mem (x .holds) r (x .put) ws;
+  balanced = arrival-balances l (x .balanced) k ws (keepRule k q r .slot);
+}

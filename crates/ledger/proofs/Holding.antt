@@ -1,6 +1,6 @@
 -- A ring that holds the book's entries holds them still: at the start, with one more, with some fewer, and after a change elsewhere.
 -- Assumes nothing.
-use Prim.Native.Nat.{ℕ, _+_, _^_, _≤_, _<_}
+use Prim.Native.Nat.{ℕ, _+_, _≤_, _<_}
 use mathlib.Core.Path.{_≡_, refl, _∙_}
 use mathlib.Core.Bool.{Bool, true, false}
 use mathlib.Core.List.{List, [], _∷_, _++_}
@@ -10,36 +10,39 @@ use lib.ListN.{length, drop, getD, length-drop, List·getD-append}
 use lib.Seq.{getD-drop, getD-at}
 use borrow.Author.Tests.{ltb-true, ltb-false}
 use Rattle.words.specs.Runs.{splice}
-use Rattle.ring.specs.Rings.{noneHeld, placeAfter, putPlace, pushed, released}
+use Rattle.ring.specs.Rings.{placeAfter, putPlace, pushed, released}
 use Rattle.ring.specs.declared.Ring.{Ring}
 use Rattle.ring.proofs.Circle.{place-lt, place-released, place-injective}
 use Rattle.ring.proofs.Fitness.{fit-none, fit-pushed, fit-released}
 use Rattle.ring.proofs.Moves.{place-pushed}
-use Rattle.engine.specs.Areas.{placeIn, Roomy}
+use Rattle.engine.specs.Areas.{placeIn}
 use Rattle.engine.specs.declared.areas.Area.{Area}
 use Rattle.engine.specs.declared.keeping.Keeper.{Keeper}
 use Rattle.engine.specs.declared.keeping.Slot.the-variants.{At}
 use Rattle.ledger.specs.Lists.{tally}
-use Rattle.ledger.specs.Ledgers.{Entry, emptyLedger, noEntry}
-use Rattle.ledger.specs.Standing.{Apart, KeptOutside, KeptWithin, Stands, Holds, Told}
-use Rattle.ledger.proofs.Tallies.{length-snoc}
+use Rattle.ledger.specs.Ledgers.{Entry, noEntry}
+use Rattle.ledger.specs.Memory.{KeptOutside, KeptWithin}
+use Rattle.ledger.specs.Standing.{Stands, Holds}
+use Rattle.ledger.specs.Promises.{EmptyAgrees, ApartAgrees}
+use Rattle.ledger.proofs.Balances.{empty-balances}
+use Rattle.ledger.proofs.Lists.{length-snoc}
 use Rattle.ledger.proofs.Stores.{kept-apart, element-kept, store-there, store-other, store-kept}
 
-pub start-holds : (k : Keeper) (a : Area) (mem : List ℕ) → Roomy a (length mem) → a .count ≡ k .size → k .size < 2 ^ 31
-    → Holds k a (emptyLedger .held) noneHeld mem
-start-holds k a mem r c s = record { places = c; room = r .room; ring = fit-none (k .size) s; fill = refl; stands = λ i h. absurd (omega arith) }
-
-pub start-told : (k : Keeper) → Told k emptyLedger noneHeld
+pub empty-agrees : EmptyAgrees
 unfolding tally placeAfter
-start-told k = refl
+empty-agrees k a mem room c = record {
+  holds = record { places = c; room = room .room; ring = fit-none (k .size) (omega (arith, room .few)); fill = refl; stands = λ i h. absurd (omega arith) };
+  put = refl;
+  balanced = empty-balances;
+}
 
 module _ (k : Keeper) (a : Area) (es : List Entry) (q : Ring) (mem : List ℕ) (h : Holds k a es q mem) where
   -- a place of a held one is within the area
-  pub place-inside : (i : ℕ) → i < q .fill → placeAfter q (k .size) i < a .count
+  place-inside : (i : ℕ) → i < q .fill → placeAfter q (k .size) i < a .count
   place-inside i l = omega (arith, h .places, h .ring .room, place-lt q (k .size) i (omega (arith, h .ring .room)))
 
-  -- another's step
-  pub within-holds : (next : List ℕ) → KeptWithin a mem next → Holds k a es q next
+  -- the area is as it was
+  within-holds : (next : List ℕ) → KeptWithin a mem next → Holds k a es q next
   within-holds next f = record {
     places = h .places;
     room = omega (arith, f .size, h .room);
@@ -49,9 +52,6 @@ module _ (k : Keeper) (a : Area) (es : List Entry) (q : Ring) (mem : List ℕ) (
         let t = h .stands i l in
         record { named = t .named; there = element-kept a mem next (h .room) f (placeAfter q (k .size) i) (place-inside i l) ∙ t .there };
   }
-
-  pub apart-holds : (b : Area) (next : List ℕ) → KeptOutside b mem next → Apart b a → Holds k a es q next
-  apart-holds b next f d = within-holds next (kept-apart a b mem next f d)
 
   -- the n oldest are given up
   pub fewer-hold : (n : ℕ) → n ≤ q .fill → Holds k a (drop n es) (released q (k .size) n) mem
@@ -107,3 +107,6 @@ module _ (k : Keeper) (a : Area) (es : List Entry) (q : Ring) (mem : List ℕ) (
       fill = rw length-snoc (omega (arith, h .fill));
       stands = more-stands;
     }
+
+pub apart-agrees : ApartAgrees
+apart-agrees k a l q mem x b next f d = record { holds = within-holds k a (l .held) q mem (x .holds) next (kept-apart a b mem next f d); put = x .put; balanced = x .balanced }

@@ -1,7 +1,9 @@
-pub mod Tallies
+pub mod Lists
 pub mod Balances
 pub mod Stores
+pub mod Sections
 pub mod Holding
+pub mod Turns
 pub mod Arrivals
 pub mod Places
 pub mod Releases

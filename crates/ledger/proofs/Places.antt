@@ -18,7 +18,7 @@ use Rattle.ledger.specs.Ledgers.{Entry, noEntry, isAt, among, entryAt, r
 use Rattle.ledger.specs.Standing.{Holds}
 
 -- the i-th of these is at place p
-abbrev pub IsAt : ℕ → ℕ → List Entry → Bool → Type 0
+abbrev IsAt : ℕ → ℕ → List Entry → Bool → Type 0
 IsAt p i es b = isAt p (getD es i noEntry .slot) ≡ b
 
 module _ (p : ℕ) where

@@ -13,13 +13,15 @@ use Rattle.ring.proofs.Holding.{held-inside, held-age, held-place, same-test}
 use Rattle.engine.specs.declared.areas.Area.{Area}
 use Rattle.engine.specs.declared.keeping.Keeper.{Keeper}
 use Rattle.ledger.specs.Ledgers.{Ledger, isAt, isHeldAt, reaching, releaseOldest, noteRelease}
-use Rattle.ledger.specs.Standing.{Holds, Told}
+use Rattle.ledger.specs.Standing.{Holds, PutAgrees}
+use Rattle.ledger.specs.Promises.{ReleaseTold, ReleaseAgrees}
+use Rattle.ledger.proofs.Balances.{release-balances}
 use Rattle.ledger.proofs.Holding.{fewer-hold}
 use Rattle.ledger.proofs.Places.{among-at, among-index, reaching-at, held-there, held-once}
 
 module _ (k : Keeper) (a : Area) (l : Ledger) (q : Ring) (mem : List ℕ) (h : Holds k a (l .held) q mem) where
-  pub release-test : (p : ℕ) → held q (k .size) p ≡ isHeldAt p l
-  release-test p = same-test (held q (k .size) p) (isHeldAt p l) there back
+  test-told : (p : ℕ) → held q (k .size) p ≡ isHeldAt p l
+  test-told p = same-test (held q (k .size) p) (isHeldAt p l) there back
     where
       there : held q (k .size) p ≡ true → isHeldAt p l ≡ true
       there e =
@@ -48,13 +50,23 @@ module _ (k : Keeper) (a : Area) (l : Ledger) (q : Ring) (mem : List ℕ) (h : H
         rw (m, released-through q (k .size) (h .ring) p (held-inside q (k .size) p e))
         (fewer-hold k a (l .held) q mem h (age q (k .size) p + 1) (omega (arith, old)))
 
-    pub release-holds : Holds k a (noteRelease l p .held) (releasedThrough q (k .size) p) mem
-    release-holds = given-up _ (omega (arith, reached))
+    holds-after : Holds k a (noteRelease l p .held) (releasedThrough q (k .size) p) mem
+    holds-after = given-up _ (omega (arith, reached))
 
-    pub release-told : Told k l q → Told k (noteRelease l p) (releasedThrough q (k .size) p)
+    put-after : PutAgrees k l q → PutAgrees k (noteRelease l p) (releasedThrough q (k .size) p)
     unfolding releaseOldest
-    release-told t =
+    put-after t =
         let all : age q (k .size) p + 1 + (q .fill - (age q (k .size) p + 1)) ≡ q .fill = omega (arith, old) in
         place-released-through q (k .size) (h .ring) p (q .fill - (age q (k .size) p + 1)) (held-inside q (k .size) p e)
         ∙ ap (placeAfter q (k .size)) all
         ∙ t
+
+pub release-told : ReleaseTold
+release-told k a l q mem x p = test-told k a l q mem (x .holds) p
+
+pub release-agrees : ReleaseAgrees
+release-agrees k a l q mem x p e = record {
+  holds = holds-after k a l q mem (x .holds) p e;
+  put = put-after k a l q mem (x .holds) p e (x .put);
+  balanced = release-balances l (x .balanced) p;
+}

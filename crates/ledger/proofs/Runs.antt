@@ -5,13 +5,6 @@ use mathlib.Core.List.{List, [], _∷_}
 use Rattle.ledger.specs.Lists.{Each}
 use Rattle.ledger.specs.Histories.{trace, after, book, foretold}
 
--- what each note keeps is true of the book of every history
-pub book-keeps : {Book Call : Type 0} {Answer : Call → Type 0} (note : Book → (c : Call) → Answer c → Book) (P : Book → Type 0)
-    → ((b : Book) (c : Call) (a : Answer c) → P b → P (note b c a))
-    → (b : Book) (ts : List ((c : Call) × Answer c)) → P b → P (book note b ts)
-book-keeps note P keep b [] h = h
-book-keeps note P keep b (t ∷ ts) h = book-keeps note P keep (note b (t .0) (t .1)) ts (keep b (t .0) (t .1) h)
-
 -- Given is what is known of each call of a run
 module _ {World Book Call : Type 0} {Answer : Call → Type 0} (step : World → (c : Call) → Answer c × World) (note : Book → (c : Call) → Answer c → Book)
     (Given : Call → Type 0) (Inv : Book → World → Type 0) (keep : (b : Book) (w : World) (c : Call) → Given c → Inv b w → Inv (note b c (step w c .0)) (step w c .1)) where

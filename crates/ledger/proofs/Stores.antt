@@ -1,7 +1,7 @@
 -- A store in one place of an area: what it changes, and what it leaves as it was.
 -- Assumes nothing.
 use Prim.Native.Nat.{ℕ, _+_, _≤_, _<_}
-use mathlib.Core.Path.{_≡_, refl, _∙_}
+use mathlib.Core.Path.{_≡_, refl}
 use mathlib.Core.Bool.{Bool, true, false}
 use mathlib.Core.List.{List}
 use mathlib.Core.Logic.{_⊎_, inl, inr}
@@ -15,13 +15,10 @@ use Rattle.words.proofs.Runs.{splice-length, splice-before, splice-after}
 use Rattle.words.proofs.Parts.{part-same, part-put, part-below, part-above}
 use Rattle.engine.specs.Areas.{placeIn}
 use Rattle.engine.specs.declared.areas.Area.{Area}
-use Rattle.ledger.specs.Standing.{areaEnd, Apart, KeptOutside, KeptWithin, elementAt}
+use Rattle.ledger.specs.Memory.{areaEnd, Apart, KeptOutside, KeptWithin, elementAt}
 
 pub kept-refl : (a : Area) (mem : List ℕ) → KeptOutside a mem mem
 kept-refl a mem = record { size = refl; outside = λ i o. refl }
-
-pub kept-trans : (a : Area) (mem next last : List ℕ) → KeptOutside a mem next → KeptOutside a next last → KeptOutside a mem last
-kept-trans a mem next last f g = record { size = g .size ∙ f .size; outside = λ i o. g .outside i o ∙ f .outside i o }
 
 pub apart-sym : (a b : Area) → Apart a b → Apart b a
 apart-sym a b (inl h) = inr h

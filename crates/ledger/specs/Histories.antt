@@ -1,5 +1,6 @@
 -- A machine that answers calls, the history of a run of it, and a book kept from the history.
 use mathlib.Core.List.{List, [], _∷_}
+use Rattle.engine.specs.Answers.{Says, refuses, answers}
 
 module _ {World Call : Type 0} {Answer : Call → Type 0} (step : World → (c : Call) → Answer c × World) where
   -- each call with its answer
@@ -21,3 +22,8 @@ module _ {Book Call : Type 0} {Answer : Call → Type 0} (note : Book → (c : C
   abbrev pub foretold : ((b : Book) (c : Call) → Answer c) → Book → List Call → List ((c : Call) × Answer c)
   foretold expect b [] = []
   foretold expect b (c ∷ cs) = (c, expect b c) ∷ foretold expect (note b c (expect b c)) cs
+
+-- a call that answers may add to a book; a refused one adds nothing
+abbrev pub noted : {Book A : Type 0} → Book → (A → Book) → Says A → Book
+noted b next (answers a) = next a
+noted b next (refuses n) = b

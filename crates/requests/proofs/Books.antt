@@ -11,38 +11,27 @@ use borrow.Author.Tests.{eqb-true}
 use Rattle.words.specs.Choice.{pick}
 use Rattle.registers.specs.declared.Registers.{Registers}
 use Rattle.engine.specs.Areas.{dedicated, isQueue}
-use Rattle.requests.specs.Lists.{tally, those, others, Rising}
+use Rattle.ledger.specs.Lists.{those, others, Rising}
 use Rattle.requests.specs.Requests.{Request, Entry, Book, emptyBook, isBuffer, entryFor, noteRequest, noteCancel, noteSent}
-use Rattle.requests.specs.Balance.{numberOf, isNumber, Balanced, isShared, Ordered}
+use Rattle.requests.specs.Balance.{numberOf, Balanced, isShared, waiting, Ordered}
 use Rattle.requests.specs.Expected.{inFifo}
-use Rattle.requests.specs.Promises.{BalancedOnce}
-use Rattle.requests.proofs.Lists.{tally-append, tally-split, numbered-snoc, once-from, rising-snoc, rising-weak, those-append, those-one, those-apart, those-both, length-snoc}
+use Rattle.ledger.proofs.Balances.{parted, start-parted}
+use Rattle.ledger.proofs.Lists.{tally-append, tally-split, numbered-snoc, rising-snoc, rising-wider, those-append, those-one, those-apart, those-both, length-snoc}
 
 pub balanced-start : Balanced emptyBook
-unfolding tally
-balanced-start = record { numbered = tt; whole = λ q. refl }
+balanced-start = start-parted numberOf
 
 module _ (l : Book) (b : Balanced l) where
-  pub balanced-request : (buffer : ℕ) (q : Request) → Balanced (noteRequest l buffer q)
-  balanced-request buffer q = record {
-    numbered = numbered-snoc numberOf 0 (l .requested) (entryFor l buffer q) (b .numbered) (omega arith);
-    whole = λ t. simp tally-append (omega (arith, b .whole t));
-  }
+  pub balanced-request : (buffer : ℕ) (q : Request) → Balanced (noteRequest l q buffer)
+  balanced-request buffer q =
+      parted numberOf _ _ _ _ (numbered-snoc numberOf 0 (l .requested) (entryFor l buffer q) (b .numbered) (omega arith))
+      (λ t. simp tally-append (omega (arith, b .whole t)))
 
   pub balanced-cancel : (buffer : ℕ) → Balanced (noteCancel l buffer)
-  balanced-cancel buffer = record {
-    numbered = b .numbered;
-    whole = λ t. simp tally-append (omega (arith, b .whole t, tally-split t (isBuffer buffer) (l .pending)));
-  }
+  balanced-cancel buffer = parted numberOf _ _ _ _ (b .numbered) (λ t. simp tally-append (omega (arith, b .whole t, tally-split t (isBuffer buffer) (l .pending))))
 
   pub balanced-sent : (buffer : ℕ) → Balanced (noteSent l buffer)
-  balanced-sent buffer = record {
-    numbered = b .numbered;
-    whole = λ t. simp tally-append (omega (arith, b .whole t, tally-split t (isBuffer buffer) (l .pending)));
-  }
-
-pub each-once : BalancedOnce
-each-once l b k h = b .whole (isNumber k) ∙ once-from numberOf 0 (l .requested) k (b .numbered) (omega arith) (omega arith)
+  balanced-sent buffer = parted numberOf _ _ _ _ (b .numbered) (λ t. simp tally-append (omega (arith, b .whole t, tally-split t (isBuffer buffer) (l .pending))))
 
 -- ---- order
 
@@ -60,35 +49,35 @@ outside g buffer n f e h = ap (leb (dedicated g)) (eqb-true (e .buffer) buffer h
     go false u n f = refl
 
 module _ (g : Registers) (l : Book) (o : Ordered g l) where
-  pub ordered-request : (buffer : ℕ) (q : Request) → Ordered g (noteRequest l buffer q)
+  pub ordered-request : (buffer : ℕ) (q : Request) → Ordered g (noteRequest l q buffer)
   ordered-request buffer q f = rw (those-append, those-one, length-snoc, ← append-assoc) (go (isShared g e))
     where
       e : Entry
       e = entryFor l buffer q
 
       xs : List Entry
-      xs = those (isShared g) (l .sent) ++ those (isShared g) (l .pending)
+      xs = those (isShared g) (l .sent) ++ waiting g l
 
-      go : (t : Bool) → Rising numberOf 0 (those (isShared g) (l .sent) ++ those (isShared g) (l .pending) ++ pick t (entryFor l buffer q ∷ []) []) (suc (length (l .requested)))
+      go : (t : Bool) → Rising numberOf 0 (those (isShared g) (l .sent) ++ waiting g l ++ pick t (entryFor l buffer q ∷ []) []) (suc (length (l .requested)))
       go true = rising-snoc numberOf 0 xs e (length (l .requested)) (o f) (omega arith)
-      go false = rw append-nil (rising-weak numberOf 0 0 xs (length (l .requested)) (suc (length (l .requested))) (omega arith) (omega arith) (o f))
+      go false = rw append-nil (rising-wider numberOf 0 0 xs (length (l .requested)) (suc (length (l .requested))) (omega arith) (omega arith) (o f))
 
   module _ (buffer : ℕ) (n : inFifo g buffer ≡ false) where
     pub ordered-cancel : Ordered g (noteCancel l buffer)
-    ordered-cancel f = rw (those-apart (isShared g) (isBuffer buffer) (l .pending) (outside g buffer n f)) (o f)
+    ordered-cancel f = rw (those-apart (isShared g) (isBuffer buffer) (outside g buffer n f) (l .pending)) (o f)
 
     pub ordered-sent-beside : Ordered g (noteSent l buffer)
     ordered-sent-beside f =
         rw (
-          those-apart (isShared g) (isBuffer buffer) (l .pending) (outside g buffer n f),
+          those-apart (isShared g) (isBuffer buffer) (outside g buffer n f) (l .pending),
           those-append,
-          those-both (isShared g) (isBuffer buffer) (l .pending) (outside g buffer n f),
+          those-both (isShared g) (isBuffer buffer) (outside g buffer n f) (l .pending),
           append-nil,
         ) (o f)
 
   -- the first of the shared FIFO goes from the front of the pending ones to the end of those sent
   pub ordered-sent-first : (buffer : ℕ)
-      → those (isShared g) (others (isBuffer buffer) (l .pending)) ≡ drop 1 (those (isShared g) (l .pending))
-      → those (isShared g) (those (isBuffer buffer) (l .pending)) ≡ take 1 (those (isShared g) (l .pending))
+      → those (isShared g) (others (isBuffer buffer) (l .pending)) ≡ drop 1 (waiting g l)
+      → those (isShared g) (those (isBuffer buffer) (l .pending)) ≡ take 1 (waiting g l)
       → Ordered g (noteSent l buffer)
   ordered-sent-first buffer rest first f = rw (rest, those-append, first, append-assoc, take-append-drop) (o f)

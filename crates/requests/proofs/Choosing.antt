@@ -26,7 +26,7 @@ use Rattle.engine.specs.declared.state.State.{State}
 use Rattle.choosing.specs.Buffers.{isPending, headerOf}
 use Rattle.choosing.specs.Choosing
 use Rattle.choosing.specs.Choosing.{rankAt, choice, send, ChoiceOutcome, chosen, choiceRule}
-use Rattle.requests.specs.Lists.{tally}
+use Rattle.ledger.specs.Lists.{tally}
 use Rattle.requests.specs.Requests.{Book, isBuffer, hasPending, pendingIn}
 use Rattle.requests.specs.Expected.{inFifo, oldestShared, isCandidate, bestOf, formSent, nextOf, expectChoice}
 use Rattle.requests.specs.Standing.{Circling, TxHolds}
@@ -86,7 +86,7 @@ module _ (l : Book) (s : State) (mem : List ℕ) (a : TxHolds (s .regs) l s mem)
           ∙ ap (λ (t : Bool). hasPending l b && (not (t && true) || eqb (oldestShared (s .regs) l .buffer) b)) (sym y)
 
   -- a candidate is pending
-  pub candidate-pending : (b : ℕ) → isCandidate (s .regs) l b ≡ true → 0 < tally (isBuffer b) (l .pending)
+  candidate-pending : (b : ℕ) → isCandidate (s .regs) l b ≡ true → 0 < tally (isBuffer b) (l .pending)
   unfolding isCandidate
   candidate-pending b e =
       ltb-true 0 (tally (isBuffer b) (l .pending)) (and-both (hasPending l b) (not (inFifo (s .regs) b) || eqb (oldestShared (s .regs) l .buffer) b) e .0)
@@ -96,7 +96,7 @@ module _ (l : Book) (s : State) (mem : List ℕ) (a : TxHolds (s .regs) l s mem)
       → headerOf s mem b ≡ record { frame = pendingIn l b .frame; marker = pendingIn l b .marker; wish = pendingIn l b .wish }
   header-told b h = reads-back (s .regs) l s mem a b h .header
 
-  pub rank-told : (b : ℕ) → 0 < tally (isBuffer b) (l .pending) → rankAt s mem b ≡ rankOf (pendingIn l b .frame)
+  rank-told : (b : ℕ) → 0 < tally (isBuffer b) (l .pending) → rankAt s mem b ≡ rankOf (pendingIn l b .frame)
   rank-told b h = ap (λ (x : TxHeader). rankOf (x .frame)) (header-told b h)
 
   pub choice-best : choice s mem ≡ bestOf (s .regs) l

@@ -1,6 +1,4 @@
-pub mod Lists
 pub mod Books
-pub mod Places
 pub mod Pending
 pub mod Circles
 pub mod Holding

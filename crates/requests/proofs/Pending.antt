@@ -2,18 +2,18 @@
 -- Assumes nothing.
 use Prim.Native.Nat.{ℕ, zero, suc, _+_, _-_, _/_, _%_, _^_, _≤_, _<_}
 use mathlib.Core.Path.{_≡_, refl, sym, ap, _∙_}
-use mathlib.Core.Bool.{Bool, true, false}
+use mathlib.Core.Bool.{Bool, true, false, not}
 use mathlib.Core.List.{List, [], _∷_, _++_}
 use native.Mathlib.Nat.{div-lt-iff-lt-mul, div-le-self, zero-div}
 use native.Mathlib.Omega.{arith}
 use lib.Dec.{eqb, ltb}
 use lib.Pow.{pow-pos, shr-shr}
-use borrow.Author.Tests.{ne-eqb, eqb-true, eqb-false, ltb-true, ltb-false, lt-ltb, le-ltb}
+use borrow.Author.Tests.{ne-eqb, eqb-true, eqb-false, ltb-true, ltb-false, lt-ltb, le-ltb, not-true}
 use Rattle.words.specs.Bits.{bit, isSet, withBit, withoutMask, withoutBit}
 use Rattle.words.proofs.Bits.{bit-lt, bit-and, set-same, set-other, cleared-same, cleared-other, same-bits}
-use Rattle.requests.specs.Lists.{tally, others}
+use Rattle.ledger.specs.Lists.{tally, others}
 use Rattle.requests.specs.Requests.{Entry, isBuffer}
-use Rattle.requests.proofs.Lists.{tally-append, tally-one, tally-split, tally-those, tally-others}
+use Rattle.ledger.proofs.Lists.{tally-append, tally-one, tally-split, tally-both}
 
 -- bits past a word's 32 stay clear when another is cleared
 cleared-past : (w b k : ℕ) → bit w k ≡ 0 → bit (withoutBit 32 w b) k ≡ 0
@@ -48,13 +48,13 @@ module _ (es : List Entry) (w : ℕ) (bits : (b : ℕ) → tally (isBuffer b) es
             arith,
             tally-split (isBuffer k) (isBuffer b) es,
             bits k,
-            tally-those (isBuffer k) (isBuffer b) es (λ x g. ne-eqb (x .buffer) k (λ f. ne (sym f ∙ eqb-true (x .buffer) b g))),
+            tally-both (isBuffer k) (isBuffer b) (λ x g. ne-eqb (x .buffer) k (λ f. ne (sym f ∙ eqb-true (x .buffer) b g))) es,
           )
 
       go : (t : Bool) → eqb k b ≡ t → (u : Bool) → ltb k 32 ≡ u → tally (isBuffer k) (others (isBuffer b) es) ≡ bit (withoutBit 32 w b) k
       go true q u r =
           let f : k ≡ b = eqb-true k b q in
-          rw (f, cleared-same 32 w b h) (tally-others (isBuffer b) (isBuffer b) es (λ x g. g))
+          rw (f, cleared-same 32 w b h) (tally-both (isBuffer b) (λ x. not (isBuffer b x)) (λ x g. not-true (isBuffer b x) g) es)
       go false q true r =
           let ne = eqb-false k b q in
           left ne ∙ sym (cleared-other 32 w b k h (ltb-true k 32 r) ne)

@@ -11,44 +11,39 @@ use borrow.Author.Tests.{eq-eqb, eqb-true, ltb-true, le-ltb, leb-true, not-true}
 use Rattle.words.specs.Choice.{pick}
 use Rattle.words.specs.Best.{Best, nobody, somebody}
 use Rattle.words.specs.Bits.{isSet, withBit, withoutBit}
-use Rattle.words.specs.Fields.{bits}
 use Rattle.words.specs.Rules.{Ruling, refuseIf, first, settle}
 use Rattle.words.proofs.Bests.{best-wins}
 use Rattle.words.proofs.Choices.{pick-second, and-both}
-use Rattle.ring.specs.Rings.{putPlace, pushed, released}
-use Rattle.ring.specs.declared.Ring.{Ring}
-use Rattle.ring.proofs.Circle.{place-lt}
+use Rattle.ring.specs.Rings.{released}
 use Rattle.frame.specs.Arbitration.{rankOf}
-use Rattle.registers.specs.declared.Registers.{Registers}
-use Rattle.layout.proofs.Table.{section-words}
 use Rattle.element.specs.declared.TxHeader.{TxHeader}
 use Rattle.engine.specs.Answers.{Says, refuses, done, wrongOutput}
-use Rattle.engine.specs.Areas.{eventSize, eventMark, eventArea, dedicated, shared, txCount, isQueue, Roomy}
+use Rattle.engine.specs.Areas.{eventArea, dedicated, shared, txCount, isQueue, txArea}
 use Rattle.engine.specs.Fitness.{unfit}
-use Rattle.engine.specs.Flags.{filling}
-use Rattle.engine.specs.Keeping.{keepRule, slotMemory, losing}
+use Rattle.engine.specs.Keeping.{keepRule, slotMemory}
 use Rattle.engine.specs.States.{withEvents, withTx}
-use Rattle.engine.specs.declared.keeping.Kept.{Kept}
-use Rattle.engine.specs.declared.keeping.Slot.{Slot}
-use Rattle.engine.specs.declared.keeping.Slot.the-variants.{At, Lost}
 use Rattle.engine.specs.declared.state.State.{State}
 use Rattle.engine.specs.declared.state.Record.{Record}
 use Rattle.engine.proofs.Rooms.{event-roomy}
+use Rattle.engine.proofs.Sounds.{sound-of}
 use Rattle.choosing.specs.Buffers.{noBuffer, inSharedFifo, headerOf}
 use Rattle.choosing.specs.Choosing
 use Rattle.choosing.specs.Choosing.{choice}
 use Rattle.reporting.specs.Reporting.{ReportOutcome, isChosen, sentState, sentStatus, eventKeeper, reported, reportRule}
-use Rattle.requests.specs.Requests.{Request, Book, isBuffer, noteSent, bookReport, pendingIn}
+use Rattle.requests.specs.Requests.{Request, Book, isBuffer, noteSent, pendingIn}
 use Rattle.requests.specs.Balance.{isShared}
 use Rattle.requests.specs.Expected.{isCandidate, bestOf, expectReport, eventFor, nextOf, expectChoice}
-use Rattle.requests.specs.Standing.{Agrees, SameBeside, InStep, ReportLeaves}
-use Rattle.requests.specs.Promises.{ReportTold, ReportAccepted, ReportedIsChosen, reportOf, ReportDue, ReportLeft}
-use Rattle.requests.proofs.Lists.{those-apart}
+use Rattle.requests.specs.Standing.{TxAgrees, InStep, Leaves}
+use Rattle.requests.specs.Promises.{ReportTold, ReportAccepted, ReportedIsChosen, reportOf, ReportDue, ReportLeaves}
+use Rattle.ledger.proofs.Lists.{those-apart}
 use Rattle.requests.proofs.Books.{balanced-sent, outside, ordered-sent-beside, ordered-sent-first}
-use Rattle.requests.proofs.Places.{store-beside, nothing-beside}
+use Rattle.ledger.specs.Histories.{noted}
+use Rattle.ledger.proofs.Arrivals.{arrival-keeps}
+use Rattle.ledger.proofs.Sections.{own-apart}
+use Rattle.ledger.proofs.Stores.{kept-apart, kept-refl}
 use Rattle.requests.proofs.Circles.{circling-same, circling-released, rest-left, first-gone}
 use Rattle.requests.proofs.Holding.{clear-holds}
-use Rattle.requests.proofs.Steps.{elsewhere-agrees, section-elsewhere, told-by, rest-same, legal-in, room-in, few-in}
+use Rattle.requests.proofs.Steps.{elsewhere-agrees, told-by, legal-in, room-in, few-in, leaves-all}
 use Rattle.requests.proofs.Choosing.{candidate-told, header-told, choice-best, best-pending}
 
 -- ---- what is answered
@@ -151,11 +146,11 @@ module _ (l : Book) (s : State) (r : Record) (mem : List ℕ) (i : InStep l s r 
   candidate = candidate-told l s mem (i .agrees .holds) b ∙ best-wins (isCandidate (s .regs) l) (λ k. rankOf (pendingIn l k .frame)) (txCount (s .regs)) b best .one
 
   -- before the event
-  pub sent-agrees : Agrees (s .regs) (noteSent l b) (sentState s b) mem
+  sent-agrees : TxAgrees (s .regs) (noteSent l b) (sentState s b) mem
   sent-agrees = go (inSharedFifo s b) refl
     where
       go : (t : Bool) → inSharedFifo s b ≡ t
-          → Agrees (s .regs) (noteSent l b) (withTx s (pick t (released (s .shared) (shared (s .regs)) 1) (s .shared)) (withoutBit 32 (s .pending) b) (withBit (s .sent) b) (s .cancelled)) mem
+          → TxAgrees (s .regs) (noteSent l b) (withTx s (pick t (released (s .shared) (shared (s .regs)) 1) (s .shared)) (withoutBit 32 (s .pending) b) (withBit (s .sent) b) (s .cancelled)) mem
       go true e =
           let g = s .regs in
           let a = i .agrees in
@@ -178,34 +173,19 @@ module _ (l : Book) (s : State) (r : Record) (mem : List ℕ) (i : InStep l s r 
           record {
             holds =
                 clear-holds g l s mem (a .holds) (few-in l s r mem i) b below (s .shared) (noteSent l b .sent) (l .cancelled) (withBit (s .sent) b) (s .cancelled)
-                (λ f. circling-same g l (s .shared) (a .holds .fifo f) (noteSent l b) (those-apart (isShared g) (isBuffer b) (l .pending) (outside g b e f)) refl)
+                (λ f. circling-same g l (s .shared) (a .holds .fifo f) (noteSent l b) (those-apart (isShared g) (isBuffer b) (outside g b e f) (l .pending)) refl)
                 (a .holds .queue);
             balanced = balanced-sent l (a .balanced) b;
             ordered = ordered-sent-beside g l (a .ordered) b e;
           }
 
--- an event that is kept changes only the event list
-event-beside : (g : Registers) (q : Ring) (t : Record) (mem ws : List ℕ) → Roomy (eventArea g) (length mem) → length ws ≡ 2
-    → SameBeside (eventArea g) mem (slotMemory mem (eventArea g) ws (keepRule (eventKeeper g) q t .slot))
-unfolding keepRule
-event-beside g q t mem ws room w =
-    go (ltb (q .fill) (eventSize g)) refl (eqb (eventSize g) 0) (record { slot = At (putPlace q (eventSize g)); ring = pushed q; status = filling t 12 (q .fill + 1) (eventMark g) (eventSize g) }) (losing (eventKeeper g) q t) refl refl
-  where
-    go : (u : Bool) → ltb (q .fill) (eventSize g) ≡ u → (v : Bool) (put lost : Kept) → put .slot ≡ At (putPlace q (eventSize g)) → lost .slot ≡ Lost
-        → SameBeside (eventArea g) mem (slotMemory mem (eventArea g) ws (pick u put (pick v lost lost) .slot))
-    go true y v put lost e f =
-        subst (λ (x : Slot). SameBeside (eventArea g) mem (slotMemory mem (eventArea g) ws x)) (sym e)
-        (store-beside (eventArea g) mem room (putPlace q (eventSize g)) (place-lt q (eventSize g) (q .fill) (omega (arith, ltb-true (q .fill) (eventSize g) y))) ws w)
-    go false n true put lost e f = subst (λ (x : Slot). SameBeside (eventArea g) mem (slotMemory mem (eventArea g) ws x)) (sym f) (nothing-beside (eventArea g) mem)
-    go false n false put lost e f = subst (λ (x : Slot). SameBeside (eventArea g) mem (slotMemory mem (eventArea g) ws x)) (sym f) (nothing-beside (eventArea g) mem)
-
-pub report-left : ReportLeft
+pub report-leaves : ReportLeaves
 unfolding reportRule reportBy
-report-left l s r mem i b passive time =
+report-leaves l s r mem i b passive time =
     go (unfit s r (length mem)) (i .fit) (noBuffer s b) (isChosen (choice s mem) b) refl
   where
     Left : ReportOutcome → Type 0
-    Left o = ReportLeaves s mem (bookReport l b (o .says)) (o .state) (o .memory)
+    Left o = Leaves (eventArea (s .regs)) s mem (noted l (λ t. noteSent l b) (o .says)) (o .state) (o .memory)
 
     -- the request is sent, and then its event is kept or lost, or none is due
     accepted : bestOf (s .regs) l ≡ somebody b → (q : Request) (t : Bool)
@@ -222,27 +202,25 @@ report-left l s r mem i b passive time =
         let k = keepRule (eventKeeper g) (s .events) (sentStatus s r b) in
         let after = slotMemory mem (eventArea g) (eventFor g q passive time) (k .slot) in
         let legal = legal-in l s r mem i in
-        let beside = event-beside g (s .events) (sentStatus s r b) mem (eventFor g q passive time) (event-roomy g (length mem) legal) refl in
-        let same = section-elsewhere g (length mem) legal (eventArea g) 5 (omega arith) refl (section-words (bits 15 2 (g .txefc .word)) (bits 21 16 (g .txefc .word)) 2) mem after beside in
+        let sound = sound-of s r (length mem) (i .fit) in
+        let kept = arrival-keeps (eventKeeper g) (eventArea g) (s .events) mem refl (event-roomy g (length mem) legal .room) (sound .events) (sentStatus s r b) (eventFor g q passive time) refl in
+        let same = kept-apart (txArea g) (eventArea g) mem after kept (own-apart g (length mem) legal 3 4 (omega arith) (omega arith) (λ e. omega arith)) in
         record {
           agrees = elsewhere-agrees g (noteSent l b) (sentState s b) (withEvents (sentState s b) (k .ring)) mem after refl refl (room-in l s r mem i) same (sent-agrees l s r mem i b best);
           state = record { regs = refl; fifo0 = refl; fifo1 = refl; newdata = refl };
-          memory = beside;
+          memory = kept;
         }
     accepted best q false = record {
       agrees = sent-agrees l s r mem i b best;
       state = record { regs = refl; fifo0 = refl; fifo1 = refl; newdata = refl };
-      memory = nothing-beside (eventArea (s .regs)) mem;
+      memory = kept-refl (eventArea (s .regs)) mem;
     }
-
-    refusal : ReportLeaves s mem l s mem
-    refusal = record { agrees = i .agrees; state = rest-same s; memory = nothing-beside (eventArea (s .regs)) mem }
 
     go : (t : Bool) → t ≡ false → (u v : Bool) → isChosen (choice s mem) b ≡ v
         → Left (settle (first (refuseIf t 20 ∷ refuseIf u 23 ∷ refuseIf (not v) 28 ∷ [])) (reported s r mem b passive time) (λ n. record { says = refuses n; state = s; status = r; memory = mem }))
     go true e u v c = absurd (true≢false e)
-    go false e true v c = refusal
-    go false e false false c = refusal
+    go false e true v c = leaves-all l s r mem i (eventArea (s .regs))
+    go false e false false c = leaves-all l s r mem i (eventArea (s .regs))
     go false e false true c =
         let h = headerOf s mem b in
         let best = sym (choice-best l s mem (i .agrees .holds)) ∙ chosen-is (choice s mem) b c in

@@ -33,18 +33,19 @@ use Rattle.choosing.specs.Buffers.{isPending, inSharedFifo, noBuffer}
 use Rattle.sending.specs.Places.{requested, freePlace, sharedAfter}
 use Rattle.sending.specs.Requesting.{RequestOutcome, requestIn, notRequested, dedicatedRule, sharedRule}
 use Rattle.sending.specs.Cancelling.{CancelOutcome, cancelRule}
-use Rattle.requests.specs.Lists.{tally}
-use Rattle.requests.specs.Requests.{Request, Book, isBuffer, noteRequest, bookRequest, noteCancel, bookCancel, hasPending}
+use Rattle.ledger.specs.Histories.{noted}
+use Rattle.ledger.specs.Lists.{tally}
+use Rattle.requests.specs.Requests.{Request, Book, isBuffer, noteRequest, noteCancel, hasPending}
 use Rattle.requests.specs.Balance.{isShared}
 use Rattle.requests.specs.Expected.{expectDedicated, freeShared, expectShared, expectCancel}
-use Rattle.requests.specs.Standing.{elementOf, TxHolds, InStep, Leaves}
+use Rattle.requests.specs.Standing.{elementOf, TxHolds, InStep, LeavesTx}
 use Rattle.requests.specs.Promises.{DedicatedTold, DedicatedLeaves, SharedTold, SharedLeaves, CancelTold, CancelLeaves}
-use Rattle.requests.proofs.Lists.{length-those, those-apart}
+use Rattle.ledger.proofs.Lists.{length-those, those-apart}
 use Rattle.requests.proofs.Books.{balanced-request, balanced-cancel, ordered-request, ordered-cancel, outside}
-use Rattle.requests.proofs.Places.{store-beside, nothing-beside}
+use Rattle.ledger.proofs.Stores.{store-kept, kept-refl}
 use Rattle.requests.proofs.Circles.{circling-same, held-told}
 use Rattle.requests.proofs.Holding.{pending-told, element-each, put-dedicated, put-queue, put-fifo, clear-holds}
-use Rattle.requests.proofs.Steps.{told-by, room-in, few-in, leaves-all}
+use Rattle.requests.proofs.Steps.{told-by, room-in, few-in, leaves-tx}
 
 -- a bit that is not set is 0
 clear-bit : (w b : ℕ) → isSet w b ≡ false → bit w b ≡ 0
@@ -53,15 +54,15 @@ clear-bit w b e = omega (arith, eqb-false (bit w b) 1 e, bit-lt w b)
 -- a request that was put in a buffer: what it leaves, where the buffers hold it
 put-leaves : (l : Book) (s : State) (r : Record) (mem : List ℕ) → InStep l s r mem → (buffer : ℕ) → buffer < txCount (s .regs) → (q : Request) (ring : Ring)
     → let next = splice mem (placeIn (txArea (s .regs)) buffer) (elementOf (s .regs) q) in
-    TxHolds (s .regs) (noteRequest l buffer q) (requested s ring buffer) next → Leaves s mem (noteRequest l buffer q) (requested s ring buffer) next
-put-leaves l s r mem i buffer h q ring holds =
-    let room = room-in l s r mem i in
-    record {
-      agrees = record { holds = holds; balanced = balanced-request l (i .agrees .balanced) buffer q; ordered = ordered-request (s .regs) l (i .agrees .ordered) buffer q };
-      state = record { regs = refl; fifo0 = refl; fifo1 = refl; newdata = refl };
-      events = refl;
-      memory = store-beside (txArea (s .regs)) mem room buffer h (elementOf (s .regs) q) (element-each (s .regs) (length mem) q room);
-    }
+    TxHolds (s .regs) (noteRequest l q buffer) (requested s ring buffer) next → LeavesTx s mem (noteRequest l q buffer) (requested s ring buffer) next
+put-leaves l s r mem i buffer h q ring holds = (
+  record {
+    agrees = record { holds = holds; balanced = balanced-request l (i .agrees .balanced) buffer q; ordered = ordered-request (s .regs) l (i .agrees .ordered) buffer q };
+    state = record { regs = refl; fifo0 = refl; fifo1 = refl; newdata = refl };
+    memory = store-kept (txArea (s .regs)) mem (room-in l s r mem i .room) buffer h (elementOf (s .regs) q) (element-each (s .regs) q);
+  },
+  refl,
+)
 
 -- ---- dedicated
 
@@ -80,14 +81,14 @@ dedicated-leaves l s r mem i buffer q typed =
     go (unfit s r (length mem)) (malformed (q .frame) (length (q .bytes))) (leb (dedicated (s .regs)) buffer) (isPending s buffer) (i .fit) refl refl refl
   where
     Left : RequestOutcome → Type 0
-    Left o = Leaves s mem (bookRequest l q (o .says)) (o .state) (o .memory)
+    Left o = LeavesTx s mem (noted l (noteRequest l q) (o .says)) (o .state) (o .memory)
 
     go : (t u v w : Bool) → t ≡ false → malformed (q .frame) (length (q .bytes)) ≡ u → leb (dedicated (s .regs)) buffer ≡ v → isPending s buffer ≡ w
         → Left (settle (first (refuseIf t 20 ∷ refuseIf u 21 ∷ refuseIf v 23 ∷ refuseIf w 24 ∷ [])) (requestIn s mem (s .shared) buffer (q .frame) (q .bytes) (q .marker) (q .wish)) (notRequested s mem))
     go true u v w e m b p = absurd (true≢false e)
-    go false true v w e m b p = leaves-all l s r mem i
-    go false false true w e m b p = leaves-all l s r mem i
-    go false false false true e m b p = leaves-all l s r mem i
+    go false true v w e m b p = leaves-tx l s r mem i
+    go false false true w e m b p = leaves-tx l s r mem i
+    go false false false true e m b p = leaves-tx l s r mem i
     go false false false false e m b p =
         let h : buffer < dedicated (s .regs) = leb-false (dedicated (s .regs)) buffer b in
         let k : buffer < txCount (s .regs) = omega arith in
@@ -116,7 +117,7 @@ module _ (s : State) where
 
   module _ (l : Book) (mem : List ℕ) (a : TxHolds (s .regs) l s mem) where
     -- the book has the same free place
-    pub free-told : freePlace s ≡ freeShared (s .regs) l
+    free-told : freePlace s ≡ freeShared (s .regs) l
     unfolding freePlace freeShared
     free-told = go (isQueue (s .regs)) refl
       where
@@ -170,7 +171,7 @@ shared-leaves l s r mem i q typed =
     buffer = dedicated (s .regs) + freePlace s
 
     Left : RequestOutcome → Type 0
-    Left o = Leaves s mem (bookRequest l q (o .says)) (o .state) (o .memory)
+    Left o = LeavesTx s mem (noted l (noteRequest l q) (o .says)) (o .state) (o .memory)
 
     accepted : malformed (q .frame) (length (q .bytes)) ≡ false → freePlace s < shared (s .regs) → Left (requestIn s mem (sharedAfter s) buffer (q .frame) (q .bytes) (q .marker) (q .wish))
     accepted m h = put-leaves l s r mem i buffer k q (sharedAfter s) (stored (isQueue (s .regs)) refl)
@@ -188,7 +189,7 @@ shared-leaves l s r mem i q typed =
         clear = free-clear s l mem (i .agrees .holds) h
 
         stored : (t : Bool) → isQueue (s .regs) ≡ t
-            → TxHolds (s .regs) (noteRequest l buffer q) (requested s (pick t (s .shared) (pushed (s .shared))) buffer) (splice mem (placeIn (txArea (s .regs)) buffer) (elementOf (s .regs) q))
+            → TxHolds (s .regs) (noteRequest l q buffer) (requested s (pick t (s .shared) (pushed (s .shared))) buffer) (splice mem (placeIn (txArea (s .regs)) buffer) (elementOf (s .regs) q))
         stored true y = put-queue (s .regs) l s mem (i .agrees .holds) room buffer k q formed typed clear y
         stored false n =
             let free = free-room s n h in
@@ -197,8 +198,8 @@ shared-leaves l s r mem i q typed =
     go : (t u v : Bool) → t ≡ false → malformed (q .frame) (length (q .bytes)) ≡ u → leb (shared (s .regs)) (freePlace s) ≡ v
         → Left (settle (first (refuseIf t 20 ∷ refuseIf u 21 ∷ refuseIf v 25 ∷ [])) (requestIn s mem (sharedAfter s) (dedicated (s .regs) + freePlace s) (q .frame) (q .bytes) (q .marker) (q .wish)) (notRequested s mem))
     go true u v e m b = absurd (true≢false e)
-    go false true v e m b = leaves-all l s r mem i
-    go false false true e m b = leaves-all l s r mem i
+    go false true v e m b = leaves-tx l s r mem i
+    go false false true e m b = leaves-tx l s r mem i
     go false false false e m b = accepted m (leb-false (shared (s .regs)) (freePlace s) b)
 
 -- ---- cancel
@@ -218,29 +219,30 @@ cancel-leaves l s r mem i buffer =
     go (unfit s r (length mem)) (noBuffer s buffer) (inSharedFifo s buffer) (not (isPending s buffer)) (i .fit) refl refl
   where
     Left : CancelOutcome → Type 0
-    Left o = Leaves s mem (bookCancel l buffer (o .says)) (o .state) mem
+    Left o = LeavesTx s mem (noted l (λ t. noteCancel l buffer) (o .says)) (o .state) mem
 
     go : (t u v w : Bool) → t ≡ false → noBuffer s buffer ≡ u → inSharedFifo s buffer ≡ v
         → Left (settle (first (refuseIf t 20 ∷ refuseIf u 23 ∷ refuseIf v 26 ∷ refuseIf w 27 ∷ []))
         (record { says = done; state = withTx s (s .shared) (withoutBit 32 (s .pending) buffer) (s .sent) (withBit (s .cancelled) buffer); status = raised r 10 })
         (λ n. record { says = refuses n; state = s; status = r }))
     go true u v w e b f = absurd (true≢false e)
-    go false true v w e b f = leaves-all l s r mem i
-    go false false true w e b f = leaves-all l s r mem i
-    go false false false true e b f = leaves-all l s r mem i
+    go false true v w e b f = leaves-tx l s r mem i
+    go false false true w e b f = leaves-tx l s r mem i
+    go false false false true e b f = leaves-tx l s r mem i
     go false false false false e b f =
         let g = s .regs in
-        let a = i .agrees in
-        record {
-          agrees = record {
-            holds =
-                clear-holds g l s mem (a .holds) (few-in l s r mem i) buffer (leb-false (txCount g) buffer b) (s .shared) (l .sent) (noteCancel l buffer .cancelled) (s .sent) (withBit (s .cancelled) buffer)
-                (λ n. circling-same g l (s .shared) (a .holds .fifo n) (noteCancel l buffer) (those-apart (isShared g) (isBuffer buffer) (l .pending) (outside g buffer f n)) refl)
-                (a .holds .queue);
-            balanced = balanced-cancel l (a .balanced) buffer;
-            ordered = ordered-cancel g l (a .ordered) buffer f;
-          };
-          state = record { regs = refl; fifo0 = refl; fifo1 = refl; newdata = refl };
-          events = refl;
-          memory = nothing-beside (txArea g) mem;
-        }
+        let a = i .agrees in (
+          record {
+            agrees = record {
+              holds =
+                  clear-holds g l s mem (a .holds) (few-in l s r mem i) buffer (leb-false (txCount g) buffer b) (s .shared) (l .sent) (noteCancel l buffer .cancelled) (s .sent) (withBit (s .cancelled) buffer)
+                  (λ n. circling-same g l (s .shared) (a .holds .fifo n) (noteCancel l buffer) (those-apart (isShared g) (isBuffer buffer) (outside g buffer f n) (l .pending)) refl)
+                  (a .holds .queue);
+              balanced = balanced-cancel l (a .balanced) buffer;
+              ordered = ordered-cancel g l (a .ordered) buffer f;
+            };
+            state = record { regs = refl; fifo0 = refl; fifo1 = refl; newdata = refl };
+            memory = kept-refl (txArea g) mem;
+          },
+          refl,
+        )

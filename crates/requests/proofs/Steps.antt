@@ -1,32 +1,24 @@
 -- What every step needs: the room of the Tx buffers, the answer of a call that tests fitness first, and steps that change nothing of theirs.
 -- Assumes nothing.
-use Prim.Native.Nat.{ℕ, _+_, _*_, _≤_, _<_}
+use Prim.Native.Nat.{ℕ, _≤_}
 use mathlib.Core.Path.{_≡_, refl}
 use mathlib.Core.Bool.{Bool, true, false}
 use mathlib.Core.List.{List, _∷_}
-use mathlib.Core.Logic.{_⊎_, inl, inr}
-use native.Mathlib.Omega.{arith}
-use lib.ListN.{length, getD}
-use Rattle.words.specs.Fields.{bits}
+use lib.ListN.{length}
 use Rattle.words.specs.Rules.{Ruling, allowed, refused, refuseIf, first, settle}
-use Rattle.registers.specs.Sizes.{elementWords}
-use Rattle.registers.specs.declared.Registers.{Registers}
-use Rattle.layout.specs.Sections.{memoryWords, none, sectionsOf}
-use Rattle.layout.specs.Verdict.{end}
+use Rattle.layout.specs.Sections.{memoryWords}
 use Rattle.layout.specs.Legal.{Legal}
-use Rattle.layout.proofs.Table.{section-words}
-use Rattle.layout.proofs.Accepted.{sections-apart}
 use Rattle.engine.specs.Areas.{txCount, txArea, Roomy}
 use Rattle.engine.specs.declared.areas.Area.{Area}
 use Rattle.engine.specs.declared.state.State.{State}
 use Rattle.engine.specs.declared.state.Record.{Record}
 use Rattle.engine.proofs.Rooms.{tx-roomy}
 use Rattle.engine.proofs.Sounds.{sound-of}
+use Rattle.ledger.proofs.Stores.{kept-refl}
 use Rattle.requests.specs.Requests.{Book}
-use Rattle.requests.specs.Standing.{InArea, SameIn, SameBeside, RestSame, InStep, Leaves}
+use Rattle.requests.specs.Standing.{InStep, Leaves, LeavesTx}
 use Rattle.requests.specs.Promises.{StartAgrees, ElsewhereAgrees}
 use Rattle.requests.proofs.Books.{balanced-start, ordered-start}
-use Rattle.requests.proofs.Places.{nothing-beside}
 use Rattle.requests.proofs.Holding.{holds-start, holds-elsewhere}
 
 pub start-agrees : StartAgrees
@@ -39,19 +31,6 @@ elsewhere-agrees g l s next mem other p e room same a = record {
   ordered = a .ordered;
 }
 
--- what changes only in another section changes no word of the Tx buffers
-pub section-elsewhere : (g : Registers) (words : ℕ) → Legal memoryWords g words → (a : Area) (i : ℕ) → i ≤ 5
-    → getD (sectionsOf g) i none .start .0 ≡ a .start .0 → getD (sectionsOf g) i none .words ≡ a .count * a .each
-    → (mem other : List ℕ) → SameBeside a mem other → SameIn (txArea g) mem other
-section-elsewhere g words h a i l start size mem other same = record { size = same .size; words = λ k n. same .words k (side k n (sections-apart memoryWords g words h i 6 (omega arith) (omega arith))) }
-  where
-    side : (k : ℕ) → InArea (txArea g) k
-        → (end (getD (sectionsOf g) i none) ≤ getD (sectionsOf g) 6 none .start .0) ⊎ (end (getD (sectionsOf g) 6 none) ≤ getD (sectionsOf g) i none .start .0)
-        → (k < a .start .0) ⊎ (a .start .0 + a .count * a .each ≤ k)
-    side k n (inl e) = inr (omega (arith, n .from))
-    side k n (inr e) =
-        inl (omega (arith, n .below, section-words (bits 15 2 (g .txbc .word)) (bits 21 16 (g .txbc .word) + bits 29 24 (g .txbc .word)) (elementWords (bits 2 0 (g .txesc .word)))))
-
 -- an outcome's part, where the state is fit: 20 is not given, and the other rules may be said otherwise
 pub told-by : {O X : Type 0} (part : O → X) (o : O) (not : ℕ → O) (t : Bool) (rs : List (Ruling ℕ)) → t ≡ false
     → part (settle (first (refuseIf t 20 ∷ rs)) o not) ≡ settle (first rs) (part o) (λ n. part (not n))
@@ -61,9 +40,6 @@ told-by part o not false rs e = go (first rs)
     go : (r : Ruling ℕ) → part (settle r o not) ≡ settle r (part o) (λ n. part (not n))
     go allowed = refl
     go (refused n) = refl
-
-pub rest-same : (s : State) → RestSame s s
-rest-same s = record { regs = refl; fifo0 = refl; fifo1 = refl; newdata = refl }
 
 module _ (l : Book) (s : State) (r : Record) (mem : List ℕ) (i : InStep l s r mem) where
   pub legal-in : Legal memoryWords (s .regs) (length mem)
@@ -76,5 +52,8 @@ module _ (l : Book) (s : State) (r : Record) (mem : List ℕ) (i : InStep l s r 
   few-in = legal-in .counted .together
 
   -- a call that is refused leaves all
-  pub leaves-all : Leaves s mem l s mem
-  leaves-all = record { agrees = i .agrees; state = rest-same s; events = refl; memory = nothing-beside (txArea (s .regs)) mem }
+  pub leaves-all : (a : Area) → Leaves a s mem l s mem
+  leaves-all a = record { agrees = i .agrees; state = record { regs = refl; fifo0 = refl; fifo1 = refl; newdata = refl }; memory = kept-refl a mem }
+
+  pub leaves-tx : LeavesTx s mem l s mem
+  leaves-tx = (leaves-all (txArea (s .regs)), refl)

@@ -20,9 +20,9 @@ use Rattle.engine.specs.Answers.{Says, refuses, answers, done, wrongOutput}
 use Rattle.engine.specs.Areas.{dedicated, shared, txCount, isQueue, txArea, dataWords}
 use Rattle.choosing.specs.Choosing.{none, send, ChoiceOutcome}
 use Rattle.reporting.specs.Reporting.{isChosen}
-use Rattle.requests.specs.Lists.{tally, those}
+use Rattle.ledger.specs.Lists.{tally}
 use Rattle.requests.specs.Requests.{Request, Entry, Book, hasPending, noEntry, pendingIn}
-use Rattle.requests.specs.Balance.{isShared}
+use Rattle.requests.specs.Balance.{isShared, waiting}
 
 -- ---- requests
 
@@ -65,7 +65,7 @@ expectCancel g l buffer =
 
 -- the first accepted of the shared requests that are pending
 abbrev pub oldestShared : Registers → Book → Entry
-oldestShared g l = getD (those (isShared g) (l .pending)) 0 noEntry
+oldestShared g l = getD (waiting g l) 0 noEntry
 
 -- what is pending, but of the shared FIFO its oldest only
 unfoldable pub isCandidate : Registers → Book → ℕ → Bool

@@ -1,4 +1,3 @@
-pub mod Lists
 pub mod Requests
 pub mod Balance
 pub mod Expected

@@ -19,28 +19,23 @@ use Rattle.sending.specs.Requesting.{RequestOutcome, dedicatedRule, sharedRule}
 use Rattle.sending.specs.Cancelling.{cancelRule}
 use Rattle.choosing.specs.Choosing.{choiceRule}
 use Rattle.reporting.specs.Reporting.{ReportOutcome, sentState, sentStatus, eventKeeper, reportRule}
-use Rattle.requests.specs.Requests.{Request, Typed, Book, emptyBook, bookRequest, bookCancel, bookReport, pendingIn}
-use Rattle.requests.specs.Balance.{Balanced, EachOnce}
+use Rattle.ledger.specs.Histories.{noted}
+use Rattle.ledger.specs.Memory.{KeptWithin}
+use Rattle.requests.specs.Requests.{Request, Typed, Book, emptyBook, noteRequest, noteCancel, noteSent, pendingIn}
 use Rattle.requests.specs.Expected.{expectDedicated, expectShared, expectCancel, bestOf, nextOf, expectChoice, expectReport, eventFor}
-use Rattle.requests.specs.Standing.{TxHolds, Agrees, SameIn, InStep, Leaves, ReportLeaves, TxFit}
-
--- ---- the book alone
-
--- a book that balances has each number once
-abbrev pub BalancedOnce : Type 0
-BalancedOnce = (l : Book) → Balanced l → EachOnce l
+use Rattle.requests.specs.Standing.{TxHolds, TxAgrees, InStep, Leaves, LeavesTx, TxFit}
 
 -- ---- start, and steps elsewhere
 
 abbrev pub StartAgrees : Type 0
-StartAgrees = (g : Registers) (s : State) (mem : List ℕ) → s .pending ≡ 0 → s .shared ≡ noneHeld → Agrees g emptyBook s mem
+StartAgrees = (g : Registers) (s : State) (mem : List ℕ) → s .pending ≡ 0 → s .shared ≡ noneHeld → TxAgrees g emptyBook s mem
 
 -- a step that changes neither the Tx buffers' part of the state nor their words
 abbrev pub ElsewhereAgrees : Type 0
 ElsewhereAgrees =
     (g : Registers) (l : Book) (s next : State) (mem other : List ℕ)
-    → next .pending ≡ s .pending → next .shared ≡ s .shared → Roomy (txArea g) (length mem) → SameIn (txArea g) mem other
-    → Agrees g l s mem → Agrees g l next other
+    → next .pending ≡ s .pending → next .shared ≡ s .shared → Roomy (txArea g) (length mem) → KeptWithin (txArea g) mem other
+    → TxAgrees g l s mem → TxAgrees g l next other
 
 -- ---- requests
 
@@ -58,7 +53,7 @@ DedicatedTold =
 abbrev pub DedicatedLeaves : Type 0
 DedicatedLeaves =
     (l : Book) (s : State) (r : Record) (mem : List ℕ) → InStep l s r mem → (buffer : ℕ) (q : Request) → Typed q
-    → let o = dedicatedOf s r mem buffer q in Leaves s mem (bookRequest l q (o .says)) (o .state) (o .memory)
+    → let o = dedicatedOf s r mem buffer q in LeavesTx s mem (noted l (noteRequest l q) (o .says)) (o .state) (o .memory)
 
 abbrev pub SharedTold : Type 0
 SharedTold =
@@ -68,7 +63,7 @@ SharedTold =
 abbrev pub SharedLeaves : Type 0
 SharedLeaves =
     (l : Book) (s : State) (r : Record) (mem : List ℕ) → InStep l s r mem → (q : Request) → Typed q
-    → let o = sharedOf s r mem q in Leaves s mem (bookRequest l q (o .says)) (o .state) (o .memory)
+    → let o = sharedOf s r mem q in LeavesTx s mem (noted l (noteRequest l q) (o .says)) (o .state) (o .memory)
 
 -- ---- cancel
 
@@ -80,7 +75,7 @@ CancelTold =
 abbrev pub CancelLeaves : Type 0
 CancelLeaves =
     (l : Book) (s : State) (r : Record) (mem : List ℕ) → InStep l s r mem → (buffer : ℕ)
-    → let o = cancelRule s r (length mem) buffer in Leaves s mem (bookCancel l buffer (o .says)) (o .state) mem
+    → let o = cancelRule s r (length mem) buffer in LeavesTx s mem (noted l (λ t. noteCancel l buffer) (o .says)) (o .state) mem
 
 -- ---- the choice: the answer and the output, of the request's own frame, marker, wish and bytes
 
@@ -124,10 +119,11 @@ ReportDue =
     (l : Book) (s : State) (r : Record) (mem : List ℕ) → InStep l s r mem → (buffer : ℕ) (passive : Bool) (time : ℕ)
     → bestOf (s .regs) l ≡ somebody buffer → reportRule s r mem buffer passive time ≡ reportOf s r mem buffer (pendingIn l buffer) passive time
 
-abbrev pub ReportLeft : Type 0
-ReportLeft =
+-- of the memory, only the event list changes
+abbrev pub ReportLeaves : Type 0
+ReportLeaves =
     (l : Book) (s : State) (r : Record) (mem : List ℕ) → InStep l s r mem → (buffer : ℕ) (passive : Bool) (time : ℕ)
-    → let o = reportRule s r mem buffer passive time in ReportLeaves s mem (bookReport l buffer (o .says)) (o .state) (o .memory)
+    → let o = reportRule s r mem buffer passive time in Leaves (eventArea (s .regs)) s mem (noted l (λ t. noteSent l buffer) (o .says)) (o .state) (o .memory)
 
 -- ---- fitness
 

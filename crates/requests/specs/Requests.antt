@@ -6,8 +6,7 @@ use lib.Dec.{eqb, ltb}
 use lib.ListN.{length, getD}
 use Rattle.frame.specs.declared.Frame.{Frame}
 use Rattle.element.specs.Promises.{AreBytes}
-use Rattle.engine.specs.Answers.{Says, refuses, answers}
-use Rattle.requests.specs.Lists.{tally, those, others}
+use Rattle.ledger.specs.Lists.{tally, those, others}
 
 -- what a request is made with
 pub record Request : Type 0 where
@@ -40,14 +39,14 @@ emptyBook = record { requested = []; pending = []; sent = []; cancelled = [] }
 abbrev pub isBuffer : ℕ → Entry → Bool
 isBuffer buffer e = eqb (e .buffer) buffer
 
--- ---- what the calls do to it
+-- ---- what an accepted call adds
 
--- accepted, in a buffer: its number is how many were accepted before it
+-- a request was accepted, in a buffer: its number is how many were accepted before it
 abbrev pub entryFor : Book → ℕ → Request → Entry
 entryFor l buffer q = record { number = length (l .requested); buffer = buffer; request = q }
 
-abbrev pub noteRequest : Book → ℕ → Request → Book
-noteRequest l buffer q = record {
+abbrev pub noteRequest : Book → Request → ℕ → Book
+noteRequest l q buffer = record {
   requested = l .requested ++ entryFor l buffer q ∷ [];
   pending = l .pending ++ entryFor l buffer q ∷ [];
   sent = l .sent;
@@ -71,20 +70,6 @@ noteSent l buffer = record {
   sent = l .sent ++ those (isBuffer buffer) (l .pending);
   cancelled = l .cancelled;
 }
-
--- ---- the same by the answers: a refused call changes nothing
-
-abbrev pub bookRequest : Book → Request → Says ℕ → Book
-bookRequest l q (answers buffer) = noteRequest l buffer q
-bookRequest l q (refuses n) = l
-
-abbrev pub bookCancel : Book → ℕ → Says (Unit {0}) → Book
-bookCancel l buffer (answers t) = noteCancel l buffer
-bookCancel l buffer (refuses n) = l
-
-abbrev pub bookReport : Book → ℕ → Says (Unit {0}) → Book
-bookReport l buffer (answers t) = noteSent l buffer
-bookReport l buffer (refuses n) = l
 
 -- ---- what it says of a buffer
 

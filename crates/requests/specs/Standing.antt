@@ -1,9 +1,8 @@
 -- That a state and a memory hold exactly the book's pending requests.
-use Prim.Native.Nat.{ℕ, _+_, _*_, _%_, _^_, _≤_, _<_}
+use Prim.Native.Nat.{ℕ, _+_, _%_, _^_, _<_}
 use mathlib.Core.Path.{_≡_}
 use mathlib.Core.Bool.{true, false}
 use mathlib.Core.List.{List}
-use mathlib.Core.Logic.{_⊎_}
 use lib.ListN.{length, getD}
 use Rattle.words.specs.Bits.{bit, isSet}
 use Rattle.ring.specs.Rings.{Fit, noneHeld, placeAfter, putPlace, held}
@@ -11,65 +10,50 @@ use Rattle.ring.specs.declared.Ring.{Ring}
 use Rattle.frame.specs.Malformed.{WellFormed}
 use Rattle.registers.specs.declared.Registers.{Registers}
 use Rattle.element.specs.Elements.{txElement}
-use Rattle.element.specs.Promises.{Holds}
-use Rattle.engine.specs.Areas.{eventArea, dedicated, shared, txCount, isQueue, txArea, dataWords, placeIn}
+use Rattle.engine.specs.Areas.{dedicated, shared, txCount, isQueue, txArea, dataWords}
 use Rattle.engine.specs.Fitness.{sharedRingSize, unfit}
 use Rattle.engine.specs.declared.areas.Area.{Area}
 use Rattle.engine.specs.declared.state.State.{State}
 use Rattle.engine.specs.declared.state.Record.{Record}
-use Rattle.requests.specs.Lists.{tally, those, All}
+use Rattle.ledger.specs.Memory.{KeptOutside, elementAt}
+use Rattle.ledger.specs.Lists.{tally, Each}
 use Rattle.requests.specs.Requests.{Request, Typed, Entry, Book, isBuffer, noEntry}
-use Rattle.requests.specs.Balance.{isShared, Balanced, Ordered}
+use Rattle.requests.specs.Balance.{isShared, waiting, Balanced, Ordered}
 
 -- a request's element, in the area of the Tx buffers
 abbrev pub elementOf : Registers → Request → List ℕ
 elementOf g q = txElement (q .marker) (q .wish) (q .frame) (q .bytes) (dataWords (txArea g))
 
 -- a pending request stands in its buffer word for word
-pub record Stands (g : Registers) (mem : List ℕ) (e : Entry) : Type 0 where
+pub record InTxBuffer (g : Registers) (mem : List ℕ) (e : Entry) : Type 0 where
   pub buffer : e .buffer < txCount g
   pub formed : WellFormed (e .request .frame) (length (e .request .bytes))
   pub typed : Typed (e .request)
-  pub words : Holds mem (placeIn (txArea g) (e .buffer)) (elementOf g (e .request))
+  pub words : elementAt (txArea g) (e .buffer) mem ≡ elementOf g (e .request)
 
 -- the shared FIFO's pending requests stand in the circle of its places in the order in which they were accepted,
 -- and how many it ever accepted tells the next one's place
 pub record Circling (g : Registers) (l : Book) (ring : Ring) : Type 0 where
   pub fit : Fit ring (shared g)
-  pub fill : length (those (isShared g) (l .pending)) ≡ ring .fill
-  pub placed : (i : ℕ) → i < ring .fill → getD (those (isShared g) (l .pending)) i noEntry .buffer ≡ dedicated g + placeAfter ring (shared g) i
+  pub fill : length (waiting g l) ≡ ring .fill
+  pub placed : (i : ℕ) → i < ring .fill → getD (waiting g l) i noEntry .buffer ≡ dedicated g + placeAfter ring (shared g) i
   pub next : putPlace ring (shared g) ≡ tally (isShared g) (l .requested) % shared g
 
 -- the buffers hold the book's pending requests and nothing else
 pub record TxHolds (g : Registers) (l : Book) (s : State) (mem : List ℕ) : Type 0 where
   -- bit b is how many pending requests buffer b has: one or none
   pub bits : (b : ℕ) → tally (isBuffer b) (l .pending) ≡ bit (s .pending) b
-  pub stands : All (Stands g mem) (l .pending)
+  pub stands : Each (InTxBuffer g mem) (l .pending)
   pub fifo : isQueue g ≡ false → Circling g l (s .shared)
   pub queue : isQueue g ≡ true → s .shared ≡ noneHeld
 
 -- all that is kept of the transmit requests
-pub record Agrees (g : Registers) (l : Book) (s : State) (mem : List ℕ) : Type 0 where
+pub record TxAgrees (g : Registers) (l : Book) (s : State) (mem : List ℕ) : Type 0 where
   pub holds : TxHolds g l s mem
   pub balanced : Balanced l
   pub ordered : Ordered g l
 
--- ---- changes of the memory
-
--- word i is one of the area's
-pub record InArea (a : Area) (i : ℕ) : Type 0 where
-  pub from : a .start .0 ≤ i
-  pub below : i < a .start .0 + a .count * a .each
-
--- nothing changed in an area
-pub record SameIn (a : Area) (mem next : List ℕ) : Type 0 where
-  pub size : length next ≡ length mem
-  pub words : (i : ℕ) → InArea a i → getD next i 0 ≡ getD mem i 0
-
--- nothing changed but in an area
-pub record SameBeside (a : Area) (mem next : List ℕ) : Type 0 where
-  pub size : length next ≡ length mem
-  pub words : (i : ℕ) → (i < a .start .0) ⊎ (a .start .0 + a .count * a .each ≤ i) → getD next i 0 ≡ getD mem i 0
+-- ---- before and after a call
 
 -- of the state, what no call on the Tx buffers changes
 pub record RestSame (s next : State) : Type 0 where
@@ -78,25 +62,20 @@ pub record RestSame (s next : State) : Type 0 where
   pub fifo1 : next .fifo1 ≡ s .fifo1
   pub newdata : next .newdata ≡ s .newdata
 
--- ---- before and after a call
-
 -- a fit state, and the book agrees with it
 pub record InStep (l : Book) (s : State) (r : Record) (mem : List ℕ) : Type 0 where
   pub fit : unfit s r (length mem) ≡ false
-  pub agrees : Agrees (s .regs) l s mem
+  pub agrees : TxAgrees (s .regs) l s mem
 
--- what a request and a cancel leave: the next book agrees, and nothing else changed than the Tx buffers
-pub record Leaves (s : State) (mem : List ℕ) (l : Book) (next : State) (other : List ℕ) : Type 0 where
-  pub agrees : Agrees (s .regs) l next other
+-- what a call on the Tx buffers leaves: the next book agrees, and of the memory only an area changed
+pub record Leaves (a : Area) (s : State) (mem : List ℕ) (l : Book) (next : State) (other : List ℕ) : Type 0 where
+  pub agrees : TxAgrees (s .regs) l next other
   pub state : RestSame s next
-  pub events : next .events ≡ s .events
-  pub memory : SameBeside (txArea (s .regs)) mem other
+  pub memory : KeptOutside a mem other
 
--- what a report leaves: an event may come besides
-pub record ReportLeaves (s : State) (mem : List ℕ) (l : Book) (next : State) (other : List ℕ) : Type 0 where
-  pub agrees : Agrees (s .regs) l next other
-  pub state : RestSame s next
-  pub memory : SameBeside (eventArea (s .regs)) mem other
+-- what a request and a cancel leave: it is the area of the Tx buffers, and no event comes
+abbrev pub LeavesTx : State → List ℕ → Book → State → List ℕ → Type 0
+LeavesTx s mem l next other = Leaves (txArea (s .regs)) s mem l next other × (next .events ≡ s .events)
 
 -- the part of fitness that is the Tx buffers'
 pub record TxFit (s : State) : Type 0 where
