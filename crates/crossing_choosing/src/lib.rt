@@ -1,11 +1,11 @@
 // Calls 10 and 11 on words.
 use choosing::asking;
-use reporting::report;
-use reporting::report::AfterReport;
 use crossing::entering::enter;
 use crossing::entering::put_both;
 use packing::states::take_record;
 use packing::states::take_state;
+use reporting::report;
+use reporting::report::AfterReport;
 use telling::answers::ANSWER_WORDS;
 use telling::answers::tell_choice;
 use telling::numbers::reply_number;
