@@ -33,7 +33,8 @@ use Rattle.engine.specs.declared.state.State.{State}
 use Rattle.engine.specs.declared.state.Record.{Record}
 use Rattle.engine.proofs.Judgements.{allowed-sound, rest-allowed}
 use Rattle.engine.proofs.Rooms.{tx-roomy}
-use Rattle.choosing.specs.Choosing.{isCandidate, rankAt, choice, choiceOutcome, chosen, choiceRule, outputRuling, picked, headerIn, rankIn, betterIn, lookedAt, choiceBelow, Below, Comparable, sentIn, chosenIn, bytesOut, CanChoose}
+use Rattle.choosing.specs.Buffers.{headerIn}
+use Rattle.choosing.specs.Choosing.{isCandidate, rankAt, choice, choiceOutcome, chosen, choiceRule, outputRuling, picked, rankIn, betterIn, lookedAt, choiceBelow, Below, Comparable, sentIn, chosenIn, bytesOut, CanChoose}
 use Rattle.choosing.specs.declared.asking.Chosen.{Chosen}
 use Rattle.choosing.specs.declared.asking.ChoiceAnswer
 use Rattle.choosing.specs.declared.asking.ChoiceAnswer.{ChoiceAnswer}
@@ -114,12 +115,10 @@ module _ (s : State) (mem : List ℕ) (a : Area) (best : Pick) (buffer : ℕ) (b
 -- ---- the loop over the buffers
 
 pub loop-start : (s : State) (mem : List ℕ) → picked Nobody ≡ choiceBelow s mem 0
-unfolding choiceBelow
 loop-start s mem = best-start (isCandidate s) (rankAt s mem)
 
 module _ (s : State) (mem : List ℕ) (best : Pick) (i : ℕ) (so : picked best ≡ choiceBelow s mem i) where
   best-below : Below best i
-  unfolding choiceBelow
   best-below = go best so
     where
       go : (x : Pick) → picked x ≡ bestBelow (isCandidate s) (rankAt s mem) i → Below x i
@@ -134,11 +133,11 @@ module _ (s : State) (mem : List ℕ) (best : Pick) (i : ℕ) (so : picked best 
   }
 
   pub loop-turn : (a : Area) (next : Pick) → a ≡ txArea (s .regs) → picked next ≡ lookedAt s mem a best i → picked next ≡ choiceBelow s mem (i + 1)
-  unfolding choiceBelow lookedAt betterIn rankIn
+  unfolding lookedAt betterIn rankIn
   loop-turn a next e q = best-turn (isCandidate s) (rankAt s mem) i (picked best) so (picked next) (q ∙ ap (λ (x : Area). lookedAt s mem x best i) e)
 
   pub loop-done : (a : Area) → a ≡ txArea (s .regs) → i ≤ a .count → a .count ≤ i → picked best ≡ choice s mem
-  unfolding choiceBelow choice
+  unfolding choice
   loop-done a e h l =
       let c : a .count ≡ txCount (s .regs) = ap (λ (x : Area). x .count) e in
       best-done (isCandidate s) (rankAt s mem) i (picked best) so (txCount (s .regs)) (omega arith) (omega arith)
@@ -148,17 +147,15 @@ module _ (s : State) (mem : List ℕ) (best : Pick) (i : ℕ) (so : picked best 
 pub header-read : (mem : List ℕ) (a : Area) (buffer at : ℕ) (h : TxHeader) → at ≡ placeIn a buffer → h ≡ headed txHeaderIn mem at → h ≡ headerIn mem a buffer
 header-read mem a buffer at h e q = q ∙ ap (headed txHeaderIn mem) e
 
-pub bytes-written : (mem : List ℕ) (a : Area) (buffer at n : ℕ) (f : Frame) (out last : List ℕ) → at ≡ placeIn a buffer → n ≡ lengthOf f
-    → last ≡ splice out 0 (sentFrom mem at (a .each - 2) n) → last ≡ bytesOut mem a buffer f out
-unfolding bytesOut
-bytes-written mem a buffer at n f out last e q t = t ∙ ap₂ (λ (k i : ℕ). splice out 0 (sentFrom mem k (dataWords a) i)) e q
+pub bytes-written : (mem : List ℕ) (a : Area) (buffer at w n : ℕ) (f : Frame) (out last : List ℕ) → at ≡ placeIn a buffer → w ≡ dataWords a → n ≡ lengthOf f
+    → last ≡ splice out 0 (sentFrom mem at w n) → last ≡ bytesOut mem a buffer f out
+bytes-written mem a buffer at w n f out last e d q t = t ∙ ap₂ (λ (k i : ℕ). splice out 0 (sentFrom mem k w i)) e q ∙ ap (λ (k : ℕ). splice out 0 (sentFrom mem (placeIn a buffer) k (lengthOf f))) d
 
 module _ (mem : List ℕ) (a : Area) (buffer : ℕ) (fd switching passive : Bool) (h : TxHeader) (f : Frame) (e : h ≡ headerIn mem a buffer) (q : f ≡ asSent (h .frame) fd switching passive) where
   frame-sent : f ≡ sentIn mem a buffer fd switching passive
   frame-sent = q ∙ ap (λ (x : TxHeader). asSent (x .frame) fd switching passive) e
 
   pub chosen-told : (n : ℕ) → n ≡ lengthOf f → record { buffer = buffer; marker = h .marker; wish = h .wish; frame = f; count = n } ≡ chosenIn mem a buffer fd switching passive
-  unfolding chosenIn
   chosen-told n t =
       ap₂ (λ (x : TxHeader) (k : ℕ). record { buffer = buffer; marker = x .marker; wish = x .wish; frame = f; count = k }) e t
       ∙ ap (λ (x : Frame). record { buffer = buffer; marker = headerIn mem a buffer .marker; wish = headerIn mem a buffer .wish; frame = x; count = lengthOf x }) frame-sent
@@ -188,7 +185,6 @@ module _ (s : State) (mem : List ℕ) (passive : Bool) (out : List ℕ) (best : 
   pub choose-sent : (a : Area) (buffer : ℕ) (c : Chosen) (last : List ℕ) → a ≡ txArea (s .regs) → best ≡ Buffer buffer → c ≡ chosenIn mem a buffer (s .regs .fdon) (s .regs .rateon) passive
       → last ≡ bytesOut mem a buffer (sentIn mem a buffer (s .regs .fdon) (s .regs .rateon) passive) out
       → choiceOutcome (ChoiceAnswer.the-variants.Send c) last ≡ chosen s mem passive out (choice s mem)
-  unfolding chosenIn bytesOut
   choose-sent a buffer c last q y u w =
       ap₂ (λ (x : Chosen) (l : List ℕ). choiceOutcome (ChoiceAnswer.the-variants.Send x) l)
       (u ∙ ap (λ (x : Area). chosenIn mem x buffer (s .regs .fdon) (s .regs .rateon) passive) q)

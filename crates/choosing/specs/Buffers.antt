@@ -7,6 +7,7 @@ use Rattle.words.specs.Bits.{isSet}
 use Rattle.element.specs.Headers.{txHeaderIn, headed}
 use Rattle.element.specs.declared.TxHeader.{TxHeader}
 use Rattle.engine.specs.Areas.{dedicated, txCount, isQueue, txArea, placeIn}
+use Rattle.engine.specs.declared.areas.Area.{Area}
 use Rattle.engine.specs.declared.state.State.{State}
 
 -- 23: no such buffer
@@ -20,6 +21,9 @@ isPending s buffer = isSet (s .pending) buffer
 abbrev pub inSharedFifo : State → ℕ → Bool
 inSharedFifo s buffer = leb (dedicated (s .regs)) buffer && not (isQueue (s .regs))
 
--- what stands in a buffer's element
+-- what stands in a buffer's element, in the area of the Tx buffers
+abbrev pub headerIn : List ℕ → Area → ℕ → TxHeader
+headerIn mem a buffer = headed txHeaderIn mem (placeIn a buffer)
+
 abbrev pub headerOf : State → List ℕ → ℕ → TxHeader
-headerOf s mem buffer = headed txHeaderIn mem (placeIn (txArea (s .regs)) buffer)
+headerOf s mem buffer = headerIn mem (txArea (s .regs)) buffer

@@ -13,7 +13,6 @@ use Rattle.frame.specs.Rank.{rank}
 use Rattle.frame.specs.Sent.{asSent}
 use Rattle.frame.specs.declared.Frame.{Frame}
 use Rattle.element.specs.Bytes.{lengthOf, sentFrom}
-use Rattle.element.specs.Headers.{txHeaderIn, headed}
 use Rattle.element.specs.declared.TxHeader.{TxHeader}
 use Rattle.engine.specs.Answers.{Says, refuses, answers, numberOf, wrongOutput}
 use Rattle.engine.specs.Areas.{dedicated, txCount, isQueue, txArea, dataWords, placeIn, HasPlace}
@@ -21,7 +20,7 @@ use Rattle.engine.specs.Fitness.{unfit, Sound}
 use Rattle.engine.specs.declared.areas.Area.{Area}
 use Rattle.engine.specs.declared.state.State.{State}
 use Rattle.engine.specs.declared.state.Record.{Record}
-use Rattle.choosing.specs.Buffers.{isPending, headerOf}
+use Rattle.choosing.specs.Buffers.{isPending, headerIn, headerOf}
 use Rattle.choosing.specs.declared.asking.Chosen.{Chosen}
 use Rattle.choosing.specs.declared.picking.Pick
 use Rattle.choosing.specs.declared.picking.Pick.{Pick}
@@ -36,16 +35,36 @@ isCandidate s buffer =
     (ltb 0 (s .shared .fill) && eqb buffer (dedicated (s .regs) + s .shared .oldest)))
 
 -- a buffer's rank, from its element's words
-abbrev pub rankAt : State → List ℕ → ℕ → ℕ
-rankAt s mem buffer = let f = headerOf s mem buffer .frame in rank (f .xtd) (f .rtr) (f .id)
+abbrev pub rankOf : TxHeader → ℕ
+rankOf h = rank (h .frame .xtd) (h .frame .rtr) (h .frame .id)
 
--- the choice: the smallest rank, and on a tie the lower buffer number
+abbrev pub rankAt : State → List ℕ → ℕ → ℕ
+rankAt s mem buffer = rankOf (headerOf s mem buffer)
+
+-- the choice: the smallest rank, and on a tie the lower buffer number; among the first n buffers, and among all
+abbrev pub choiceBelow : State → List ℕ → ℕ → Best
+choiceBelow s mem n = bestBelow (isCandidate s) (rankAt s mem) n
+
 unfoldable pub choice : State → List ℕ → Best
-choice s mem = bestBelow (isCandidate s) (rankAt s mem) (txCount (s .regs))
+choice s mem = choiceBelow s mem (txCount (s .regs))
 
 -- a buffer's frame as it is sent
+abbrev pub sentIn : List ℕ → Area → ℕ → Bool → Bool → Bool → Frame
+sentIn mem a buffer fd switching passive = asSent (headerIn mem a buffer .frame) fd switching passive
+
 abbrev pub sentFrame : State → List ℕ → Bool → ℕ → Frame
-sentFrame s mem passive buffer = asSent (headerOf s mem buffer .frame) (s .regs .fdon) (s .regs .rateon) passive
+sentFrame s mem passive buffer = sentIn mem (txArea (s .regs)) buffer (s .regs .fdon) (s .regs .rateon) passive
+
+-- what is told of it
+abbrev pub chosenIn : List ℕ → Area → ℕ → Bool → Bool → Bool → Chosen
+chosenIn mem a buffer fd switching passive =
+    let h = headerIn mem a buffer in
+    let f = sentIn mem a buffer fd switching passive in
+    record { buffer = buffer; marker = h .marker; wish = h .wish; frame = f; count = lengthOf f }
+
+-- the bytes to send go to the front of the output, and the rest stays
+abbrev pub bytesOut : List ℕ → Area → ℕ → Frame → List ℕ → List ℕ
+bytesOut mem a buffer f out = splice out 0 (sentFrom mem (placeIn a buffer) (dataWords a) (lengthOf f))
 
 -- nothing to send, or the frame to send
 pub data Next : Type 0 where
@@ -64,16 +83,12 @@ pub record ChoiceOutcome : Type 0 where
 abbrev pub choiceOutcome : ChoiceAnswer → List ℕ → ChoiceOutcome
 choiceOutcome a out = record { says = meaning a; output = out }
 
--- the bytes to send go to the front of the output, and the rest stays
 abbrev pub chosen : State → List ℕ → Bool → List ℕ → Best → ChoiceOutcome
 chosen s mem passive out nobody = record { says = answers none; output = out }
-chosen s mem passive out (somebody buffer) =
-    let f = sentFrame s mem passive buffer in
-    let h = headerOf s mem buffer in
-    record {
-      says = answers (send (record { buffer = buffer; marker = h .marker; wish = h .wish; frame = f; count = lengthOf f }));
-      output = splice out 0 (sentFrom mem (placeIn (txArea (s .regs)) buffer) (dataWords (txArea (s .regs))) (lengthOf f));
-    }
+chosen s mem passive out (somebody buffer) = record {
+  says = answers (send (chosenIn mem (txArea (s .regs)) buffer (s .regs .fdon) (s .regs .rateon) passive));
+  output = bytesOut mem (txArea (s .regs)) buffer (sentFrame s mem passive buffer) out;
+}
 
 -- call 10
 unfoldable pub choiceRule : State → Record → List ℕ → Bool → List ℕ → ChoiceOutcome
@@ -82,7 +97,7 @@ choiceRule s r mem passive out =
     (chosen s mem passive out (choice s mem))
     (λ n. record { says = refuses n; output = out })
 
--- ---- the parts of it, over the area of the Tx buffers
+-- ---- the parts of it
 
 -- 30, which comes after 20
 abbrev pub outputRuling : ℕ → Ruling ℕ
@@ -92,11 +107,8 @@ abbrev pub picked : Pick → Best
 picked Pick.the-variants.Nobody = nobody
 picked (Pick.the-variants.Buffer b) = somebody b
 
-abbrev pub headerIn : List ℕ → Area → ℕ → TxHeader
-headerIn mem a buffer = headed txHeaderIn mem (placeIn a buffer)
-
 unfoldable pub rankIn : List ℕ → Area → ℕ → ℕ
-rankIn mem a buffer = let f = headerIn mem a buffer .frame in rank (f .xtd) (f .rtr) (f .id)
+rankIn mem a buffer = rankOf (headerIn mem a buffer)
 
 -- a candidate against the pick so far, and any buffer against it
 unfoldable pub betterIn : List ℕ → Area → Pick → ℕ → Best
@@ -104,10 +116,6 @@ betterIn mem a best buffer = better (rankIn mem a) (picked best) buffer
 
 unfoldable pub lookedAt : State → List ℕ → Area → Pick → ℕ → Best
 lookedAt s mem a best buffer = pick (isCandidate s buffer) (betterIn mem a best buffer) (picked best)
-
--- the choice among the first n buffers
-unfoldable pub choiceBelow : State → List ℕ → ℕ → Best
-choiceBelow s mem n = bestBelow (isCandidate s) (rankAt s mem) n
 
 -- the pick so far is below a number
 abbrev pub Below : Pick → ℕ → Type 0
@@ -119,18 +127,6 @@ pub record Comparable (a : Area) (words : ℕ) (best : Pick) (buffer : ℕ) : Ty
   pub place : HasPlace a buffer words
   pub small : buffer < 32
   pub below : Below best buffer
-
--- the frame to send from a buffer, and the bytes in front of the output
-abbrev pub sentIn : List ℕ → Area → ℕ → Bool → Bool → Bool → Frame
-sentIn mem a buffer fd switching passive = asSent (headerIn mem a buffer .frame) fd switching passive
-
-unfoldable pub chosenIn : List ℕ → Area → ℕ → Bool → Bool → Bool → Chosen
-chosenIn mem a buffer fd switching passive =
-    let f = sentIn mem a buffer fd switching passive in
-    record { buffer = buffer; marker = headerIn mem a buffer .marker; wish = headerIn mem a buffer .wish; frame = f; count = lengthOf f }
-
-unfoldable pub bytesOut : List ℕ → Area → ℕ → Frame → List ℕ → List ℕ
-bytesOut mem a buffer f out = splice out 0 (sentFrom mem (placeIn a buffer) (dataWords a) (lengthOf f))
 
 -- the choice can be told
 pub record CanChoose (s : State) (mem out : List ℕ) : Type 0 where

@@ -5,6 +5,7 @@ use element::TxHeader;
 use element::memory::read_tx;
 use element::memory::write_sent;
 use engine::areas::Area;
+use engine::areas::data_words;
 use engine::areas::place_in;
 use engine::areas::tx_area;
 use engine::fitness::is_unfit;
@@ -23,7 +24,8 @@ ghost use Rattle.element.specs.Fitting.{InFields};
 ghost use Rattle.engine.specs.Answers.{ruled};
 ghost use Rattle.engine.specs.Areas.{HasPlace};
 ghost use Rattle.engine.specs.Fitness.{fitThen};
-ghost use Rattle.choosing.specs.Choosing.{choice, choiceOutcome, chosen as chosenRule, choiceRule, outputRuling, headerIn, sentIn, chosenIn, bytesOut, CanChoose};
+ghost use Rattle.choosing.specs.Buffers.{headerIn};
+ghost use Rattle.choosing.specs.Choosing.{choice, choiceOutcome, chosen as chosenRule, choiceRule, outputRuling, sentIn, chosenIn, bytesOut, CanChoose};
 
 // The frame to send next, as it is sent.
 pub struct Chosen {
@@ -58,7 +60,7 @@ fn write_bytes(mem: &[u32], a: Area, buffer: u32, f: Frame, out: &mut [u8]) -> u
 {
     let at = place_in(a, buffer, mem.len());
     let count = data_length(f.rtr, f.fdf, f.dlc);
-    write_sent(mem, at, (a.each - 2) as usize, count as usize, out);
+    write_sent(mem, at, data_words(a), count as usize, out);
     count
 }
 
@@ -87,7 +89,6 @@ fn send_from(
     }
 }
 
-// Tells the choice.
 fn choose(s: State, mem: &[u32], passive: bool, out: &mut [u8]) -> ChoiceAnswer
     requires { ⌜ CanChoose s (now mem) (now out) ⌝ }
     ensures { λ r. ⌜ choiceOutcome r (now (out .exit)) ≡ chosenRule s (now (mem .entry)) passive (now (out .entry)) (choice s (now (mem .entry))) ⌝ }

@@ -11,7 +11,7 @@ use registers::kinds::Txefc;
 use registers::sizes::element_words;
 ghost use mathlib.Core.Path.{_≡_};
 ghost use Prim.Native.Nat.{_+_, _*_, _≤_, _<_};
-ghost use Rattle.engine.specs.Areas.{areaIn, fifoWord, fifoCode, fifoArea, bufferArea, eventArea, txArea, Roomy, placeIn};
+ghost use Rattle.engine.specs.Areas.{areaIn, fifoWord, fifoCode, fifoArea, bufferArea, eventArea, txCount, txArea, Roomy, placeIn, dataWords};
 
 pub struct Area {
     pub start: WordAddress,
@@ -72,15 +72,18 @@ pub fn event_area(r: Registers) -> Area
     area_in(events(r.txefc), r.txefc.count(), Txefc::EACH)
 }
 
+// How many Tx buffers there are, dedicated and shared.
+pub fn tx_count(r: Registers) -> u32
+    ensures { λ n. ⌜ n ≡ txCount r ⌝ }
+{
+    r.txbc.dedicated() + r.txbc.shared()
+}
+
 pub fn tx_area(r: Registers) -> Area
     ensures { λ a. ⌜ a ≡ txArea r ⌝ }
 {
     let code = r.txesc.size();
-    area_in(
-        tx_buffers(r.txbc, code),
-        r.txbc.dedicated() + r.txbc.shared(),
-        element_words(code),
-    )
+    area_in(tx_buffers(r.txbc, code), tx_count(r), element_words(code))
 }
 
 // The first word of the element at a place.
@@ -90,4 +93,12 @@ pub fn place_in(a: Area, place: u32, words: usize) -> usize
     ensures { λ at. ⌜ (at ≡ placeIn a place) × (at + a .each ≤ words) ⌝ }
 {
     (a.start.0 + place * a.each) as usize
+}
+
+// The data words of an element: all but the two of its header.
+pub fn data_words(a: Area) -> usize
+    requires { ⌜ 2 ≤ a .each ⌝ }
+    ensures { λ n. ⌜ n ≡ dataWords a ⌝ }
+{
+    (a.each - 2) as usize
 }

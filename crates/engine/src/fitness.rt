@@ -1,4 +1,5 @@
 // When a state and its record are unfit for a memory (refusal 20).
+use crate::areas::tx_count;
 use crate::state::Record;
 use crate::state::State;
 use layout::check::check;
@@ -59,7 +60,7 @@ fn rings_unfit(s: State) -> bool
 fn bits_unfit(s: State) -> bool
     ensures { λ b. ⌜ b ≡ bitsUnfit s ⌝ }
 {
-    let count = s.regs.txbc.dedicated() + s.regs.txbc.shared();
+    let count = tx_count(s.regs);
     past32(s.pending, count)
         | past32(s.sent, count)
         | past32(s.cancelled, count)

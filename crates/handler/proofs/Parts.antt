@@ -37,7 +37,7 @@ use Rattle.receiving.proofs.Outcomes.{receive-cases}
 use Rattle.words.proofs.Rulings.{settled}
 use Rattle.taking.proofs.Outcomes.{acknowledge-cases, release-cases}
 use Rattle.choosing.specs.Buffers.{inSharedFifo}
-use Rattle.reporting.specs.Reporting.{ReportOutcome, sharedSent, sentStatus, eventKeeper, eventKept}
+use Rattle.reporting.specs.Reporting.{ReportOutcome, sharedSent, sentStatus, eventKeeper}
 use Rattle.sending.specs.Cancelling.{CancelOutcome}
 use Rattle.sending.specs.Events.{AcknowledgeOutcome}
 use Rattle.sending.specs.Requesting.{RequestOutcome}
@@ -206,7 +206,7 @@ clear-parts w mask =
     (λ n. untouched w) (λ e. stays (flags ∷ []) _ w refl (λ h. cc) (λ h. refl))
 
 pub parts-stay : (w : World) (c : Call) → Stays (changed c (step w c .0)) w (step w c .1)
-unfolding step startRule raised eventKept
+unfolding step startRule raised
 parts-stay w (start g) = started-parts w g (verdict memoryWords g (length (w .memory)))
 parts-stay w (receive f d time) =
     receive-cases (w .state) (w .status) (w .memory) f d time (ReceiveStays w) (λ n. untouched w) (λ p k on m l x. fifo-parts w f d time k on m) (λ p b i l z x. buffer-parts w f d time b i)

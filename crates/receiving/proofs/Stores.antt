@@ -1,7 +1,7 @@
 -- The cases of storing a frame, one law each.
 -- Assumes nothing.
 use Prim.Native.Nat.{ℕ, _*_}
-use mathlib.Core.Path.{_≡_, refl, ap, _∙_}
+use mathlib.Core.Path.{_≡_, refl, ap, ap₂, _∙_}
 use mathlib.Core.List.{List}
 use native.Mathlib.Omega.{arith}
 use lib.Dec.{eqb}
@@ -12,7 +12,8 @@ use Rattle.registers.specs.declared.Registers.{Registers}
 use Rattle.registers.specs.declared.kinds.Rxfc.{Rxfc}
 use Rattle.frame.specs.declared.Frame.{Frame}
 use Rattle.frame.specs.declared.Matched.{Matched}
-use Rattle.engine.specs.Areas.{fifoWord, placeIn}
+use Rattle.element.specs.Elements.{rxElement}
+use Rattle.engine.specs.Areas.{fifoWord, placeIn, dataWords}
 use Rattle.engine.specs.Keeping.{keepRule, CanKeep, slotMemory}
 use Rattle.engine.specs.declared.areas.Area.{Area}
 use Rattle.engine.specs.declared.keeping.Keeper.{Keeper}
@@ -25,8 +26,9 @@ use Rattle.receiving.specs.Storing.{CanStore, CanPut, RingFits}
 
 -- ---- at a place, and in a slot
 
-pub stored-at : (mem last ws : List ℕ) (a : Area) (place at : ℕ) → at ≡ placeIn a place → last ≡ splice mem at ws → last ≡ splice mem (placeIn a place) ws
-stored-at mem last ws a place at e h = h ∙ ap (λ (k : ℕ). splice mem k ws) e
+pub stored-at : (mem last : List ℕ) (a : Area) (place at n : ℕ) (m : Matched) (f : Frame) (time : ℕ) (d : List ℕ) → at ≡ placeIn a place → n ≡ dataWords a
+    → last ≡ splice mem at (rxElement m f time d n) → last ≡ splice mem (placeIn a place) (rxElement m f time d (dataWords a))
+stored-at mem last a place at n m f time d e q h = h ∙ ap₂ (λ (k i : ℕ). splice mem k (rxElement m f time d i)) e q
 
 module _ (a : Area) (slot : Slot) where
   pub slot-place : (m : Matched) (f : Frame) (words p : ℕ) → CanPut a slot m f words → slot ≡ At p → CanStore a p m f words

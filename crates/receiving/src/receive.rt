@@ -80,7 +80,6 @@ fn into_fifo(
     }
 }
 
-// An Rx buffer's new-data bit is set.
 fn with_new(s: State, buffer: u32) -> State
     requires { ⌜ buffer < 64 ⌝ }
     ensures { λ n. ⌜ n ≡ withNewData s (withBit (s .newdata) buffer) ⌝ }
@@ -90,7 +89,6 @@ fn with_new(s: State, buffer: u32) -> State
     n
 }
 
-// In an Rx buffer.
 fn into_buffer(
     s: State,
     status: Record,
@@ -120,7 +118,7 @@ fn into_buffer(
     }
 }
 
-// Where the frame goes.
+// By the destination that the filters give.
 fn take_in(
     s: State,
     status: Record,

@@ -2,6 +2,7 @@
 use crate::noting::note_slot;
 use element::memory::store_rx;
 use engine::areas::Area;
+use engine::areas::data_words;
 use engine::areas::fifo_area;
 use engine::areas::fifo_register;
 use engine::areas::place_in;
@@ -24,13 +25,12 @@ ghost use Rattle.receiving.specs.Fifos.{keeperOf};
 ghost use Rattle.receiving.specs.Receive.{keptNoted};
 ghost use Rattle.receiving.specs.Storing.{CanStore, CanPut, RingFits, ReadyRing};
 
-// Stores a frame at a place.
 pub fn store_at(mem: &mut [u32], a: Area, place: u32, m: Matched, f: Frame, time: u16, bytes: &[u8])
     requires { ⌜ CanStore a place m f (length (now mem)) ⌝ }
     ensures { λ _. ⌜ now (mem .exit) ≡ splice (now (mem .entry)) (placeIn a place) (rxElement m f time (now (bytes .entry)) (dataWords a)) ⌝ }
 {
     let at = place_in(a, place, mem.len());
-    store_rx(mem, at, (a.each - 2) as usize, m, f, time, bytes)
+    store_rx(mem, at, data_words(a), m, f, time, bytes)
 }
 
 // Stores a frame in a slot, if it has one.

@@ -42,8 +42,8 @@ use Rattle.engine.specs.declared.state.Record.{Record}
 use Rattle.engine.proofs.Cases.{fifo-ring}
 use Rattle.engine.proofs.Keeps.{keep-cases}
 use Rattle.engine.proofs.Rooms.{tx-roomy, event-roomy}
-use Rattle.choosing.specs.Buffers.{noBuffer, inSharedFifo, headerOf}
-use Rattle.choosing.specs.Choosing.{isCandidate, rankAt, choice, picked, headerIn}
+use Rattle.choosing.specs.Buffers.{noBuffer, inSharedFifo, headerIn, headerOf}
+use Rattle.choosing.specs.Choosing.{isCandidate, rankAt, choice, picked}
 use Rattle.engine.specs.Fitness.{fitThen}
 use Rattle.reporting.specs.Reporting.{reportOutcome, isChosen, sharedSent, sentState, eventKeeper, reported, reportRule, chosenRuling, Reportable, sentWith, eventKept, eventDue, SlotIn, EventFits, CanTellOf, CanTellAs}
 use Rattle.choosing.specs.declared.picking.Pick.{Pick}
@@ -57,29 +57,29 @@ use Rattle.words.proofs.Rulings.{all-two}
 pub pick-tested : (best : Pick) (b buffer : ℕ) → best ≡ Buffer b → eqb b buffer ≡ isChosen (picked best) buffer
 pick-tested best b buffer y = sym (ap (λ (x : Pick). isChosen (picked x) buffer) y)
 
-module _ (s : State) (mem : List ℕ) (buffer n m : ℕ) (e : n ≡ dedicated (s .regs)) (q : m ≡ shared (s .regs)) where
-  count-test : (b : Bool) → leb (n + m) buffer ≡ b → noBuffer s buffer ≡ b
-  count-test b t = ap₂ (λ (x y : ℕ). leb (x + y) buffer) (sym e) (sym q) ∙ t
+module _ (s : State) (mem : List ℕ) (buffer n : ℕ) (e : n ≡ txCount (s .regs)) where
+  count-test : (b : Bool) → leb n buffer ≡ b → noBuffer s buffer ≡ b
+  count-test b t = ap (λ (x : ℕ). leb x buffer) (sym e) ∙ t
 
-  pub report-none : n + m ≤ buffer → ruled (Judged.the-variants.Refused NoSuch) ≡ chosenRuling s mem buffer
+  pub report-none : n ≤ buffer → ruled (Judged.the-variants.Refused NoSuch) ≡ chosenRuling s mem buffer
   unfolding chosenRuling
-  report-none h = let t = count-test true (le-leb (n + m) buffer h) in sym (simp t)
+  report-none h = let t = count-test true (le-leb n buffer h) in sym (simp t)
 
-  module _ (h : buffer < n + m) (best : Pick) (b : Bool) (u : picked best ≡ choice s mem) (w : b ≡ isChosen (picked best) buffer) where
+  module _ (h : buffer < n) (best : Pick) (b : Bool) (u : picked best ≡ choice s mem) (w : b ≡ isChosen (picked best) buffer) where
     choice-test : (c : Bool) → b ≡ c → isChosen (choice s mem) buffer ≡ c
     choice-test c y = ap (λ (x : Best). isChosen x buffer) (sym u) ∙ sym w ∙ y
 
     pub report-chosen : b ≡ true → ruled Judged.the-variants.Allowed ≡ chosenRuling s mem buffer
     unfolding chosenRuling
     report-chosen y =
-        let t = count-test false (lt-leb (n + m) buffer h) in
+        let t = count-test false (lt-leb n buffer h) in
         let z = choice-test true y in
         sym (simp (t, z))
 
     pub report-other : b ≡ false → ruled (Judged.the-variants.Refused NotTheChoice) ≡ chosenRuling s mem buffer
     unfolding chosenRuling
     report-other y =
-        let t = count-test false (lt-leb (n + m) buffer h) in
+        let t = count-test false (lt-leb n buffer h) in
         let z = choice-test false y in
         sym (simp (t, z))
 
@@ -161,7 +161,6 @@ module _ (s : State) (k : Keeper) (e : k ≡ eventKeeper (s .regs)) where
 
     pub event-kept : (mem last : List ℕ) (marker : ℕ) (f : Frame) (time : ℕ) (a : Area) (n : State) → a ≡ eventArea (s .regs) → last ≡ slotMemory mem a (eventElement marker f time) (t .slot)
         → n ≡ withEvents s (t .ring) → reportOutcome (record { reply = Done; state = n; status = t .status }) last ≡ eventKept s r mem marker f time
-    unfolding eventKept
     event-kept mem last marker f time a n u w z =
         ap₂ (λ (x : State) (l : List ℕ). reportOutcome (record { reply = Done; state = x; status = t .status }) l) z
         (w ∙ ap (λ (x : Area). slotMemory mem x (eventElement marker f time) (t .slot)) u)
@@ -179,12 +178,10 @@ module _ (s : State) (r : Record) (mem : List ℕ) (buffer : ℕ) (passive : Boo
   header-is = q ∙ ap (λ (x : Area). headerIn mem x buffer) e
 
   pub no-event : h .wish ≡ false → reportOutcome (record { reply = Done; state = s; status = r }) mem ≡ eventDue s r mem buffer passive time
-  unfolding eventDue
   no-event z = let w : headerOf s mem buffer .wish ≡ false = sym (ap (λ (x : TxHeader). x .wish) header-is) ∙ z in sym (simp w)
 
   pub one-event : (f : Frame) (o : AfterReport) (last : List ℕ) → h .wish ≡ true → f ≡ asSent (h .frame) (s .regs .fdon) (s .regs .rateon) passive
       → reportOutcome o last ≡ eventKept s r mem (h .marker) f time → reportOutcome o last ≡ eventDue s r mem buffer passive time
-  unfolding eventDue
   one-event f o last y u w =
       let z : headerOf s mem buffer .wish ≡ true = sym (ap (λ (x : TxHeader). x .wish) header-is) ∙ y in
       w
@@ -203,7 +200,7 @@ module _ (s : State) (buffer : ℕ) (next : Ring) (n : State) (e : next ≡ shar
 
   pub report-done : (r : Record) (mem : List ℕ) (passive : Bool) (time : ℕ) (b c : Bool) (t : Record) (o : AfterReport) (last : List ℕ) → b ≡ inSharedFifo s buffer
       → t ≡ raisedIf (raised r 9) (b && eqb (next .fill) 0) 11 → reportOutcome o last ≡ eventDue n t mem buffer passive time → reportOutcome o last ≡ reported s r mem buffer passive time
-  unfolding reported eventDue eventKept
+  unfolding reported
   report-done r mem passive time b c t o last u w z =
       z
       ∙ ap₂ (λ (x : State) (y : Record). eventDue x y mem buffer passive time) sent-is

@@ -51,9 +51,12 @@ isChosen (somebody b) buffer = eqb b buffer
 abbrev pub sharedSent : State → ℕ → Ring
 sharedSent s buffer = pick (inSharedFifo s buffer) (released (s .shared) (shared (s .regs)) 1) (s .shared)
 
--- the state after the send, before its event
+-- the state after the send, before its event: with another shared ring, and the buffer sent
+abbrev pub sentWith : State → Ring → ℕ → State
+sentWith s next buffer = withTx s next (withoutBit 32 (s .pending) buffer) (withBit (s .sent) buffer) (s .cancelled)
+
 abbrev pub sentState : State → ℕ → State
-sentState s buffer = withTx s (sharedSent s buffer) (withoutBit 32 (s .pending) buffer) (withBit (s .sent) buffer) (s .cancelled)
+sentState s buffer = sentWith s (sharedSent s buffer) buffer
 
 -- sent 9; 11 where this send emptied the shared FIFO
 abbrev pub sentStatus : State → Record → ℕ → Record
@@ -63,20 +66,26 @@ sentStatus s r buffer = raisedIf (raised r 9) (inSharedFifo s buffer && eqb (sha
 abbrev pub eventKeeper : Registers → Keeper
 eventKeeper g = record { size = eventSize g; mark = eventMark g; overwrites = false; first = 12 }
 
--- an event is due where the sent element wants one: it has the frame as sent
-unfoldable pub reported : State → Record → List ℕ → ℕ → Bool → ℕ → ReportOutcome
-reported s r mem buffer passive time =
-    let h = headerOf s mem buffer in
-    let t = sentStatus s r buffer in
-    let k = keepRule (eventKeeper (s .regs)) (s .events) t in
-    pick (h .wish)
-    (record {
+-- an event into the list
+abbrev pub eventKept : State → Record → List ℕ → ℕ → Frame → ℕ → ReportOutcome
+eventKept s r mem marker f time =
+    let k = keepRule (eventKeeper (s .regs)) (s .events) r in
+    record {
       says = done;
-      state = withEvents (sentState s buffer) (k .ring);
+      state = withEvents s (k .ring);
       status = k .status;
-      memory = slotMemory mem (eventArea (s .regs)) (eventElement (h .marker) (sentFrame s mem passive buffer) time) (k .slot);
-    })
-    (record { says = done; state = sentState s buffer; status = t; memory = mem })
+      memory = slotMemory mem (eventArea (s .regs)) (eventElement marker f time) (k .slot);
+    }
+
+-- an event is due where the sent element wants one: it has the frame as sent
+abbrev pub eventDue : State → Record → List ℕ → ℕ → Bool → ℕ → ReportOutcome
+eventDue s r mem buffer passive time =
+    pick (headerOf s mem buffer .wish)
+    (eventKept s r mem (headerOf s mem buffer .marker) (sentFrame s mem passive buffer) time)
+    (record { says = done; state = s; status = r; memory = mem })
+
+unfoldable pub reported : State → Record → List ℕ → ℕ → Bool → ℕ → ReportOutcome
+reported s r mem buffer passive time = eventDue (sentState s buffer) (sentStatus s r buffer) mem buffer passive time
 
 -- call 11
 unfoldable pub reportRule : State → Record → List ℕ → ℕ → Bool → ℕ → ReportOutcome
@@ -100,28 +109,6 @@ pub record Reportable (s : State) (words buffer : ℕ) : Type 0 where
   pub sound : Sound s words
   pub within : buffer < txCount (s .regs)
   pub candidate : isCandidate s buffer ≡ true
-
--- a state with another shared ring, and a buffer sent
-abbrev pub sentWith : State → Ring → ℕ → State
-sentWith s next buffer = withTx s next (withoutBit 32 (s .pending) buffer) (withBit (s .sent) buffer) (s .cancelled)
-
--- an event into the list
-unfoldable pub eventKept : State → Record → List ℕ → ℕ → Frame → ℕ → ReportOutcome
-eventKept s r mem marker f time =
-    let k = keepRule (eventKeeper (s .regs)) (s .events) r in
-    record {
-      says = done;
-      state = withEvents s (k .ring);
-      status = k .status;
-      memory = slotMemory mem (eventArea (s .regs)) (eventElement marker f time) (k .slot);
-    }
-
--- of a state after the send: an event, where the element wants one
-unfoldable pub eventDue : State → Record → List ℕ → ℕ → Bool → ℕ → ReportOutcome
-eventDue s r mem buffer passive time =
-    pick (headerOf s mem buffer .wish)
-    (eventKept s r mem (headerOf s mem buffer .marker) (sentFrame s mem passive buffer) time)
-    (record { says = done; state = s; status = r; memory = mem })
 
 -- a slot is in an area, if it is anywhere
 abbrev pub SlotIn : Slot → ℕ → Type 0

@@ -1,6 +1,7 @@
 // Whether a report is refused, before anything is done: the lowest number that applies.
 use choosing::picking::Pick;
 use choosing::picking::best_buffer;
+use engine::areas::tx_count;
 use engine::fitness::is_unfit;
 use engine::refusals::Judged;
 use engine::refusals::Refusal;
@@ -27,7 +28,7 @@ fn judge_chosen(s: State, mem: &[u32], buffer: u32) -> Judged
     requires { ⌜ Sound s (length (now mem)) ⌝ }
     ensures { λ j. ⌜ ruled j ≡ chosenRuling s (now (mem .entry)) buffer ⌝ }
 {
-    if s.regs.txbc.dedicated() + s.regs.txbc.shared() <= buffer {
+    if tx_count(s.regs) <= buffer {
         return Judged::Refused(Refusal::NoSuch);
     }
     let best = best_buffer(s, mem);

@@ -62,7 +62,7 @@ fn sent_flags(r: Record, emptied: bool) -> Record
     raise_if(raise(r, 9), emptied, 11)
 }
 
-// A buffer is sent.
+// The event comes last: it is kept in the state and the record after the send.
 fn report(
     s: State,
     status: Record,
@@ -87,7 +87,6 @@ fn report(
     )
 }
 
-// Reports that the choice was sent.
 pub fn report_sent(
     s: State,
     status: Record,

@@ -44,7 +44,7 @@ fn write_event(mem: &mut [u32], a: Area, slot: Slot, marker: u8, f: Frame, time:
     store_event(mem, at, marker, f, time)
 }
 
-// An event goes into the list.
+// A full list loses the event, with a flag.
 fn keep_event(
     s: State,
     status: Record,

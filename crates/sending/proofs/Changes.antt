@@ -28,7 +28,7 @@ use Rattle.sending.specs.Places.{freePlace, sharedAfter}
 use Rattle.sending.specs.Cancelling.{CancelOutcome}
 use Rattle.choosing.specs.Choosing.{ChoiceOutcome, chosen, choice, sentFrame}
 use Rattle.sending.specs.Events.{AcknowledgeOutcome}
-use Rattle.reporting.specs.Reporting.{ReportOutcome, sentStatus, eventKeeper, reported, eventKept, SlotIn}
+use Rattle.reporting.specs.Reporting.{ReportOutcome, sentStatus, eventKeeper, reported, SlotIn}
 use Rattle.sending.specs.Requesting.{RequestOutcome, requestIn, Requestable}
 use Rattle.sending.specs.Promises.{OnlyAt, OneElement, CallsChangeOwn, RefusedLeavesAll}
 use Rattle.reporting.proofs.Reports.{kept-in}
@@ -41,7 +41,6 @@ not-refused {A} {B} {a} {n} e = let z : _≡_ {A = ℕ} 0 1 = cc in absurd (omeg
 -- ---- refusals
 
 reported-says : (s : State) (r : Record) (mem : List ℕ) (buffer : ℕ) (passive : Bool) (time : ℕ) → reported s r mem buffer passive time .says ≡ done
-unfolding eventKept
 reported-says s r mem buffer passive time = sent-ways s r mem buffer passive time (λ (o : ReportOutcome). o .says ≡ done) refl refl
 
 chosen-says : {B : Type 0} (s : State) (mem : List ℕ) (passive : Bool) (out : List ℕ) (m : Best) (n : ℕ) → chosen s mem passive out m .says ≡ refuses n → B
@@ -85,7 +84,6 @@ event-only s mem marker f time (At p) h l =
     inr (p, (l, record { size = e .size; outside = e .outside }))
 
 pub report-only : (s : State) (r : Record) (mem : List ℕ) (buffer : ℕ) (passive : Bool) (time : ℕ) → Sound s (length mem) → OneElement mem (reported s r mem buffer passive time .memory) (eventArea (s .regs))
-unfolding eventKept
 report-only s r mem buffer passive time h =
     sent-ways s r mem buffer passive time (λ (o : ReportOutcome). OneElement mem (o .memory) (eventArea (s .regs)))
     (event-only s mem (headerOf s mem buffer .marker) (sentFrame s mem passive buffer) time (keepRule (eventKeeper (s .regs)) (s .events) (sentStatus s r buffer) .slot) h

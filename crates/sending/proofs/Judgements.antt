@@ -1,6 +1,6 @@
 -- The cases of what is found against calls 7, 8, 9, 12 and 13, one law each.
 -- Assumes nothing.
-use Prim.Native.Nat.{ℕ, _+_, _≤_, _<_}
+use Prim.Native.Nat.{ℕ, _≤_, _<_}
 use mathlib.Core.Path.{_≡_, sym, _∙_}
 use mathlib.Core.Bool.{Bool, true, false, not, _&&_}
 use borrow.Author.Tests.{le-leb, lt-leb}
@@ -12,7 +12,7 @@ use Rattle.ring.specs.declared.Ring.{Ring}
 use Rattle.frame.specs.Malformed.{malformed}
 use Rattle.frame.specs.declared.Frame.{Frame}
 use Rattle.engine.specs.Answers.{ruled}
-use Rattle.engine.specs.Areas.{eventSize, dedicated, shared, txCount, isQueue}
+use Rattle.engine.specs.Areas.{eventSize, dedicated, txCount, isQueue}
 use Rattle.engine.specs.Fitness.{unfit, fitThen}
 use Rattle.engine.specs.declared.refusals.Judged.{Judged}
 use Rattle.engine.specs.declared.refusals.Judged.the-variants.{Allowed, Refused}
@@ -30,7 +30,7 @@ module _ (s : State) (r : Record) (words : ℕ) (b : Bool) (e : b ≡ unfit s r 
     pub dedicated-rest : (f : Frame) (len : ℕ) → n ≡ dedicated (s .regs) → ruled j ≡ freeRuling f len n (s .pending) buffer → ruled j ≡ fitThen s r words (freeRuling f len (dedicated (s .regs)) (s .pending) buffer)
     dedicated-rest f len q t = fit-rest s r words b e (freeRuling f len (dedicated (s .regs)) (s .pending) buffer) j z (t ∙ rw q)
 
-    pub cancel-rest : (m : ℕ) (c : Bool) → n ≡ dedicated (s .regs) → m ≡ shared (s .regs) → c ≡ isQueue (s .regs) → ruled j ≡ pendingRuling (n + m) n c (s .pending) buffer
+    pub cancel-rest : (m : ℕ) (c : Bool) → n ≡ dedicated (s .regs) → m ≡ txCount (s .regs) → c ≡ isQueue (s .regs) → ruled j ≡ pendingRuling m n c (s .pending) buffer
         → ruled j ≡ fitThen s r words (pendingRuling (txCount (s .regs)) (dedicated (s .regs)) (isQueue (s .regs)) (s .pending) buffer)
     cancel-rest m c q u w t = fit-rest s r words b e (pendingRuling (txCount (s .regs)) (dedicated (s .regs)) (isQueue (s .regs)) (s .pending) buffer) j z (t ∙ rw (q, u, w))
 
@@ -41,8 +41,8 @@ module _ (s : State) (r : Record) (words : ℕ) (b : Bool) (e : b ≡ unfit s r 
   pub few-dedicated : b ≡ false → (n : ℕ) → n ≡ dedicated (s .regs) → n ≤ 32
   few-dedicated z n q = omega (arith, sound-of s r words (sym e ∙ z) .legal .counted .together)
 
-  pub few-buffers : b ≡ false → (n m : ℕ) → n ≡ dedicated (s .regs) → m ≡ shared (s .regs) → n + m ≤ 32
-  few-buffers z n m q t = omega (arith, sound-of s r words (sym e ∙ z) .legal .counted .together)
+  pub few-buffers : b ≡ false → (n : ℕ) → n ≡ txCount (s .regs) → n ≤ 32
+  few-buffers z n q = omega (arith, sound-of s r words (sym e ∙ z) .legal .counted .together)
 
   pub events-fit : b ≡ false → (n : ℕ) → n ≡ eventSize (s .regs) → Fit (s .events) n
   events-fit z n q = rw q (sound-of s r words (sym e ∙ z) .events)

@@ -1,18 +1,18 @@
 -- The cases of calls 7 and 8, one law each.
 -- Assumes nothing.
-use Prim.Native.Nat.{ℕ, _+_, _-_, _≤_, _<_}
-use mathlib.Core.Path.{_≡_, sym, ap, ap₂, _∙_, subst}
+use Prim.Native.Nat.{ℕ, _+_, _≤_, _<_}
+use mathlib.Core.Path.{_≡_, refl, sym, ap, ap₂, _∙_, subst}
 use mathlib.Core.Bool.{Bool, true, false}
 use mathlib.Core.List.{List, [], _∷_}
-use borrow.Author.Tests.{le-leb, lt-leb, leb-false}
+use borrow.Author.Tests.{le-leb, lt-leb, leb-false, ltb-true}
 use native.Mathlib.Omega.{arith}
-use lib.Dec.{leb}
+use lib.Dec.{leb, ltb}
 use lib.ListN.{length}
 use Rattle.words.specs.Bits.{isSet}
 use Rattle.words.specs.Rules.{Ruling, refuseIf, first, settle}
 use Rattle.words.specs.Runs.{splice}
 use Rattle.words.proofs.Choices.{pick-first, pick-second}
-use Rattle.ring.specs.Rings.{pushed}
+use Rattle.ring.specs.Rings.{Fit, pushed}
 use Rattle.ring.specs.declared.Ring.{Ring}
 use Rattle.frame.specs.Malformed.{malformed}
 use Rattle.frame.specs.declared.Frame.{Frame}
@@ -20,7 +20,7 @@ use Rattle.element.specs.Elements.{txElement}
 use Rattle.element.proofs.Fitness.{frame-fits}
 use Rattle.engine.specs.Answers.{ruled}
 use Rattle.engine.specs.Areas.{dedicated, shared, isQueue, txArea, dataWords, placeIn, HasPlace}
-use Rattle.engine.specs.Fitness.{unfit, Sound, fitThen}
+use Rattle.engine.specs.Fitness.{unfit, fitThen}
 use Rattle.engine.specs.declared.areas.Area.{Area}
 use Rattle.engine.specs.declared.refusals.Judged
 use Rattle.engine.specs.declared.refusals.Judged.{Judged}
@@ -28,11 +28,11 @@ use Rattle.engine.specs.declared.refusals.Refusal.{Refusal}
 use Rattle.engine.specs.declared.refusals.Refusal.the-variants.{NoneFree}
 use Rattle.engine.specs.declared.state.State.{State}
 use Rattle.engine.specs.declared.state.Record.{Record}
-use Rattle.engine.proofs.Cases.{shared-most}
+use Rattle.engine.proofs.Cases.{fifo-ring}
 use Rattle.engine.proofs.Rooms.{tx-roomy}
 use Rattle.sending.specs.Places.{requested, freePlace, sharedAfter}
 use Rattle.sending.specs.Judging.{freeRuling, formRuling}
-use Rattle.sending.specs.Requesting.{requestOutcome, requestIn, notRequested, requestFree, dedicatedRule, sharedRule, Requestable, Writable}
+use Rattle.sending.specs.Requesting.{requestOutcome, requestIn, notRequested, requestFree, dedicatedRule, sharedRule, Requestable, Writable, SharedRoom}
 use Rattle.sending.specs.declared.requesting.Requested.the-variants.{Buffer, Refused}
 use Rattle.sending.specs.declared.requesting.AfterRequest.{AfterRequest}
 use Rattle.engine.proofs.Judgements.{allowed-sound, rest-allowed}
@@ -40,9 +40,9 @@ use Rattle.words.proofs.Rulings.{all-three, one-rule, stops, two-refuse, two-al
 
 -- ---- in a buffer
 
-pub request-written : (mem last : List ℕ) (a : Area) (at buffer marker : ℕ) (wish : Bool) (f : Frame) (d : List ℕ) → at ≡ placeIn a buffer
-    → last ≡ splice mem at (txElement marker wish f d (a .each - 2)) → last ≡ splice mem (placeIn a buffer) (txElement marker wish f d (dataWords a))
-request-written mem last a at buffer marker wish f d e q = q ∙ ap (λ (k : ℕ). splice mem k (txElement marker wish f d (dataWords a))) e
+pub request-written : (mem last : List ℕ) (a : Area) (at n buffer marker : ℕ) (wish : Bool) (f : Frame) (d : List ℕ) → at ≡ placeIn a buffer → n ≡ dataWords a
+    → last ≡ splice mem at (txElement marker wish f d n) → last ≡ splice mem (placeIn a buffer) (txElement marker wish f d (dataWords a))
+request-written mem last a at n buffer marker wish f d e u q = q ∙ ap₂ (λ (k i : ℕ). splice mem k (txElement marker wish f d i)) e u
 
 module _ (s : State) (words buffer : ℕ) (f : Frame) (h : Requestable s words buffer f) where
   pub request-place : (a : Area) → a ≡ txArea (s .regs) → HasPlace a buffer words
@@ -91,11 +91,25 @@ module _ (s : State) (b : Bool) (e : b ≡ isQueue (s .regs)) where
   pub after-queue : b ≡ true → s .shared ≡ sharedAfter s
   after-queue y = sym (pick-first (s .shared) (pushed (s .shared)) (sym e ∙ y))
 
-  pub after-fifo : b ≡ false → pushed (s .shared) ≡ sharedAfter s
-  after-fifo z = sym (pick-second (s .shared) (pushed (s .shared)) (sym e ∙ z))
+  module _ (z : b ≡ false) where
+    pub after-fifo : (next : Ring) → next ≡ pushed (s .shared) → next ≡ sharedAfter s
+    after-fifo next q = q ∙ sym (pick-second (s .shared) (pushed (s .shared)) (sym e ∙ z))
 
-pub fill-small : (s : State) (words : ℕ) → Sound s words → s .shared .fill ≤ 63
-fill-small s words h = omega (arith, h .shared .room, shared-most (s .regs))
+    module _ (words n : ℕ) (h : SharedRoom s words) (q : n ≡ shared (s .regs)) where
+      pub push-fits : Fit (s .shared) n
+      push-fits = rw (fifo-ring (s .regs) b e z n q) (h .sound .shared)
+
+      pub push-room : s .shared .fill < n
+      push-room = omega (arith, h .room (sym e ∙ z))
+
+-- a place that is free leaves room for one more
+pub free-room : (s : State) (words : ℕ) (f : Frame) (place n : ℕ) → Writable s words f → place ≡ freePlace s → n ≡ shared (s .regs) → place < n → SharedRoom s words
+unfolding freePlace
+free-room s words f place n w e q h = record { sound = w .sound; room = λ u. go u (ltb (s .shared .fill) (shared (s .regs))) refl }
+  where
+    go : isQueue (s .regs) ≡ false → (b : Bool) → ltb (s .shared .fill) (shared (s .regs)) ≡ b → s .shared .fill < shared (s .regs)
+    go u true t = ltb-true (s .shared .fill) (shared (s .regs)) t
+    go u false t = let z : place ≡ shared (s .regs) = e ∙ simp (u, t) in absurd (omega arith)
 
 -- at a place
 module _ (s : State) (words place : ℕ) (f : Frame) (h : Requestable s words (dedicated (s .regs) + place) f) where

@@ -23,7 +23,7 @@ use Rattle.sending.specs.Places.{requested, freePlace, sharedAfter}
 use Rattle.sending.specs.Cancelling.{CancelOutcome}
 use Rattle.choosing.specs.Choosing.{choice}
 use Rattle.sending.specs.Events.{AcknowledgeOutcome}
-use Rattle.reporting.specs.Reporting.{ReportOutcome, sentState, sentStatus, eventKeeper, reported, eventKept}
+use Rattle.reporting.specs.Reporting.{ReportOutcome, sentState, sentStatus, eventKeeper, reported}
 use Rattle.sending.specs.Requesting.{RequestOutcome, requestIn, Requestable}
 use Rattle.sending.specs.Promises.{OneElement, IsFit, PendingAreHeld, FitStaysFit}
 use Rattle.choosing.proofs.Candidates.{choice-is-best, candidates-are-those, candidates-wait}
@@ -52,7 +52,6 @@ module _ (s : State) (r : Record) (mem : List ℕ) (fit : IsFit s r mem) where
       stays (requested s next buffer) r (requestIn s mem next buffer f d marker wish .memory) (request-only s mem buffer f d marker wish next a .size) h flags
 
   report-stays : (buffer : ℕ) (passive : Bool) (time : ℕ) → choice s mem ≡ somebody buffer → let o = reported s r mem buffer passive time in Sound (o .state) (length mem) × FlagsSound (o .status)
-  unfolding eventKept
   report-stays buffer passive time e =
       let c = choice-is-best s (length mem) mem buffer sound .0 e .one in
       let h = sent-sound s (length mem) sound buffer (candidates-wait s (length mem) buffer sound c .exists) (candidates-are-those s buffer .1 c) in

@@ -139,7 +139,7 @@ module _ (s : State) (r : Record) (mem : List ℕ) where
       → P (eventKept (sentState s buffer) (sentStatus s r buffer) mem (headerOf s mem buffer .marker) (sentFrame s mem passive buffer) time)
       → P (record { says = done; state = sentState s buffer; status = sentStatus s r buffer; memory = mem })
       → P (reported s r mem buffer passive time)
-  unfolding reported eventKept
+  unfolding reported
   sent-ways buffer passive time P on off = go (headerOf s mem buffer .wish)
     where
       go : (t : Bool)

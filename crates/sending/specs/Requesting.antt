@@ -1,6 +1,7 @@
 -- Calls 7 and 8, request a dedicated buffer and request the shared part: the whole outcome.
 use Prim.Native.Nat.{ℕ, _+_, _<_}
-use mathlib.Core.Bool.{Bool}
+use mathlib.Core.Path.{_≡_}
+use mathlib.Core.Bool.{Bool, false}
 use mathlib.Core.List.{List, [], _∷_}
 use lib.Dec.{leb}
 use lib.ListN.{length}
@@ -12,7 +13,7 @@ use Rattle.frame.specs.declared.Frame.{Frame}
 use Rattle.element.specs.Elements.{txElement}
 use Rattle.element.specs.Fitting.{InFields}
 use Rattle.engine.specs.Answers.{Says, refuses, answers, numberOf}
-use Rattle.engine.specs.Areas.{dedicated, shared, txCount, txArea, dataWords, placeIn}
+use Rattle.engine.specs.Areas.{dedicated, shared, txCount, isQueue, txArea, dataWords, placeIn}
 use Rattle.engine.specs.Fitness.{unfit, Sound}
 use Rattle.engine.specs.declared.state.State.{State}
 use Rattle.engine.specs.declared.state.Record.{Record}
@@ -55,6 +56,11 @@ pub record Requestable (s : State) (words buffer : ℕ) (f : Frame) : Type 0 whe
 pub record Writable (s : State) (words : ℕ) (f : Frame) : Type 0 where
   pub sound : Sound s words
   pub frame : InFields f
+
+-- the shared part can take one more: where it is a FIFO, that is not full
+pub record SharedRoom (s : State) (words : ℕ) : Type 0 where
+  pub sound : Sound s words
+  pub room : isQueue (s .regs) ≡ false → s .shared .fill < shared (s .regs)
 
 -- call 8 but for its first refusals
 unfoldable pub requestFree : State → List ℕ → Frame → List ℕ → ℕ → Bool → RequestOutcome

@@ -28,7 +28,7 @@ fn with_cancel(s: State, buffer: u32) -> State
     n
 }
 
-// Cancels a request.
+// A request in the shared FIFO cannot be cancelled: it is sent in its turn.
 pub fn cancel(s: State, status: Record, mem: &[u32], buffer: u32) -> AfterCancel
     ensures { λ r. ⌜ cancelOutcome r ≡ cancelRule s status (length (now (mem .entry))) buffer ⌝ }
 {

@@ -32,7 +32,6 @@ fn event_at(mem: &[u32], a: Area, place: u32) -> EventHeader
     element::memory::read_event(mem, place_in(a, place, mem.len()))
 }
 
-// Reads a held event.
 pub fn read_event(s: State, status: Record, mem: &[u32], place: u32) -> EventAnswer
     ensures { λ r. ⌜ meaning r ≡ readEventRule s status (now (mem .entry)) place ⌝ }
 {
@@ -51,7 +50,6 @@ fn release_events(s: State, place: u32) -> State
     s.with_events(next)
 }
 
-// Releases all events up to and including a place.
 pub fn acknowledge_event(s: State, status: Record, mem: &[u32], place: u32) -> AfterAcknowledge
     ensures { λ r. ⌜ acknowledgeOutcome r ≡ acknowledgeEventRule s status (length (now (mem .entry))) place ⌝ }
 {

@@ -1,4 +1,5 @@
 // What is found against the calls before anything is done: the refusal of the lowest number.
+use engine::areas::tx_count;
 use engine::fitness::is_queue;
 use engine::fitness::is_unfit;
 use engine::refusals::Judged;
@@ -88,9 +89,13 @@ pub fn judge_cancel(s: State, status: Record, words: usize, buffer: u32) -> Judg
     if is_unfit(s, status, words) {
         return Judged::Refused(Refusal::Unfit);
     }
-    let dedicated = s.regs.txbc.dedicated();
-    let count = dedicated + s.regs.txbc.shared();
-    judge_pending(count, dedicated, is_queue(s.regs), s.pending, buffer)
+    judge_pending(
+        tx_count(s.regs),
+        s.regs.txbc.dedicated(),
+        is_queue(s.regs),
+        s.pending,
+        buffer,
+    )
 }
 
 // 23 and 29 of a place in a ring.

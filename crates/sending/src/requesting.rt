@@ -3,6 +3,7 @@ use crate::judging::judge_dedicated;
 use crate::judging::judge_form;
 use element::memory::store_tx;
 use engine::areas::Area;
+use engine::areas::data_words;
 use engine::areas::place_in;
 use engine::areas::tx_area;
 use engine::fitness::is_queue;
@@ -25,7 +26,7 @@ ghost use Rattle.element.specs.Fitting.{InFields};
 ghost use Rattle.engine.specs.Areas.{dedicated, dataWords, placeIn, HasPlace};
 ghost use Rattle.engine.specs.Fitness.{Sound};
 ghost use Rattle.sending.specs.Places.{requested, queuePlace, freePlace, sharedAfter, QueueFits};
-ghost use Rattle.sending.specs.Requesting.{requestOutcome, requestIn, requestFree, dedicatedRule, sharedRule, Requestable, Writable};
+ghost use Rattle.sending.specs.Requesting.{requestOutcome, requestIn, requestFree, dedicatedRule, sharedRule, Requestable, Writable, SharedRoom};
 
 pub enum Requested {
     // the buffer's number
@@ -52,7 +53,7 @@ fn write_request(
     ensures { λ _. ⌜ now (mem .exit) ≡ splice (now (mem .entry)) (placeIn a buffer) (txElement marker wish f (now (bytes .entry)) (dataWords a)) ⌝ }
 {
     let at = place_in(a, buffer, mem.len());
-    store_tx(mem, at, (a.each - 2) as usize, marker, wish, f, bytes)
+    store_tx(mem, at, data_words(a), marker, wish, f, bytes)
 }
 
 // The buffer is pending, and neither sent nor cancelled.
@@ -68,7 +69,6 @@ fn with_request(s: State, next: Ring, buffer: u32) -> State
     n
 }
 
-// The request goes into a buffer.
 fn request_in(
     s: State,
     mem: &mut [u32],
@@ -89,7 +89,6 @@ fn request_in(
     }
 }
 
-// Requests a dedicated buffer.
 pub fn request_dedicated(
     s: State,
     status: Record,
@@ -146,21 +145,17 @@ fn free_place(s: State, words: usize) -> u32
     fifo_place(s.shared, shared)
 }
 
-// The shared ring after a request.
+// A queue has no ring: its pending bits say all.
 fn shared_after(s: State, words: usize) -> Ring
-    requires { ⌜ Sound s words ⌝ }
+    requires { ⌜ SharedRoom s words ⌝ }
     ensures { λ q. ⌜ q ≡ sharedAfter s ⌝ }
 {
     if is_queue(s.regs) {
         return s.shared;
     }
-    Ring {
-        oldest: s.shared.oldest,
-        fill: s.shared.fill + 1,
-    }
+    ring::push(s.shared, s.regs.txbc.shared())
 }
 
-// The request goes into a place of the shared part.
 fn request_at(
     s: State,
     mem: &mut [u32],
@@ -171,6 +166,7 @@ fn request_at(
     wish: bool,
 ) -> AfterRequest
     requires { ⌜ Requestable s (length (now mem)) (dedicated (s .regs) + place) f ⌝ }
+    requires { ⌜ SharedRoom s (length (now mem)) ⌝ }
     ensures { λ r. ⌜ requestOutcome r (now (mem .exit)) ≡ requestIn s (now (mem .entry)) (sharedAfter s) (dedicated (s .regs) + place) f (now (bytes .entry)) marker wish ⌝ }
 {
     let next = shared_after(s, mem.len());
@@ -200,7 +196,7 @@ fn request_free(
     request_at(s, mem, place, f, bytes, marker, wish)
 }
 
-// Requests a buffer of the shared part.
+// 25 is found last, together with the place that is free.
 pub fn request_shared(
     s: State,
     status: Record,

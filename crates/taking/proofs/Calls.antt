@@ -1,6 +1,6 @@
 -- The cases of calls 3 to 6, one law each.
 -- Assumes nothing.
-use Prim.Native.Nat.{ℕ, _-_}
+use Prim.Native.Nat.{ℕ}
 use mathlib.Core.Path.{_≡_, refl, sym, ap, _∙_}
 use mathlib.Core.Bool.{Bool, true}
 use mathlib.Core.List.{List, [], _∷_}
@@ -15,7 +15,7 @@ use Rattle.ring.specs.declared.Ring.{Ring}
 use Rattle.registers.specs.declared.kinds.Rxfc.{Rxfc}
 use Rattle.element.specs.Bytes.{rxRead, readBytes}
 use Rattle.element.specs.declared.RxRead.{RxRead}
-use Rattle.engine.specs.Areas.{fifoWord, fifoSize, fifoArea, bufferArea, placeIn}
+use Rattle.engine.specs.Areas.{fifoWord, fifoSize, fifoArea, bufferArea, placeIn, dataWords}
 use Rattle.engine.specs.Fitness.{unfit, fitThen}
 use Rattle.engine.specs.States.{fifoRing, withFifo, withNewData}
 use Rattle.engine.specs.declared.areas.Area.{Area}
@@ -77,10 +77,10 @@ module _ (mem : List ℕ) (a : Area) (place : ℕ) (out : List ℕ) where
   unfolding readOrNot
   read-wrong h = simp (ne-eqb _ _ h)
 
-  pub read-done : (at : ℕ) (h : RxRead) (last : List ℕ) → length out ≡ 64 → at ≡ placeIn a place → h ≡ rxRead mem at (a .each - 2) → last ≡ splice out 0 (readBytes mem at (a .each - 2))
+  pub read-done : (at n : ℕ) (h : RxRead) (last : List ℕ) → length out ≡ 64 → at ≡ placeIn a place → n ≡ dataWords a → h ≡ rxRead mem at n → last ≡ splice out 0 (readBytes mem at n)
       → readOutcome (ReadAnswer.the-variants.Read h) last ≡ readOrNot mem a place out
   unfolding readOrNot
-  read-done at h last z e p q = simp (eq-eqb _ _ z, p, q, e)
+  read-done at n h last z e d p q = simp (eq-eqb _ _ z, p, q, e, d)
 
 -- three rules, and a fourth
 then-fourth : (a b c d : Ruling ℕ) → first (a ∷ b ∷ c ∷ d ∷ []) ≡ first (first (a ∷ b ∷ c ∷ []) ∷ d ∷ [])

@@ -5,6 +5,7 @@ use element::RxRead;
 use element::memory::read_rx;
 use engine::areas::Area;
 use engine::areas::buffer_area;
+use engine::areas::data_words;
 use engine::areas::fifo_area;
 use engine::areas::place_in;
 use engine::refusals::Judged;
@@ -30,7 +31,7 @@ fn read_in(mem: &[u32], a: Area, place: u32, out: &mut [u8]) -> ReadAnswer
         return ReadAnswer::Refused(Refusal::WrongOutput);
     }
     let at = place_in(a, place, mem.len());
-    ReadAnswer::Read(read_rx(mem, at, (a.each - 2) as usize, out))
+    ReadAnswer::Read(read_rx(mem, at, data_words(a), out))
 }
 
 // Reads the element at a held place of a FIFO.

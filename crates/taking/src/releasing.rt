@@ -28,7 +28,7 @@ fn release_through(s: State, fifo: u32, place: u32) -> State
     s.with_fifo(fifo, ring::release_through(s.fifo_ring(fifo), size, place))
 }
 
-// Releases all in a FIFO up to and including a place.
+// The place need not be the oldest: all held before it are released with it.
 pub fn acknowledge_fifo(
     s: State,
     status: Record,
@@ -50,7 +50,6 @@ pub fn acknowledge_fifo(
     }
 }
 
-// An Rx buffer's new-data bit is cleared.
 fn without_new(s: State, buffer: u32) -> State
     requires { ⌜ buffer < 64 ⌝ }
     ensures { λ n. ⌜ n ≡ withNewData s (withoutBit 64 (s .newdata) buffer) ⌝ }
@@ -60,7 +59,7 @@ fn without_new(s: State, buffer: u32) -> State
     n
 }
 
-// Releases an Rx buffer.
+// From then on a frame can be stored in the buffer again.
 pub fn release_buffer(s: State, status: Record, mem: &[u32], buffer: u32) -> AfterRelease
     ensures { λ r. ⌜ releaseOutcome r ≡ releaseRule s status (length (now (mem .entry))) buffer ⌝ }
 {

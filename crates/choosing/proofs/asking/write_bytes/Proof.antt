@@ -9,14 +9,11 @@ place-in-requires c κs = search needs
 data-length-requires : tie.Need-data-length-requires
 data-length-requires c κs = search needs
 
-sub-write-sent : tie.Need-sub-write-sent
-sub-write-sent c = search needs
+data-words-requires : tie.Need-data-words-requires
+data-words-requires c κs = search needs
 
 cast-write-sent : tie.Need-cast-write-sent
 cast-write-sent c = search needs
-
-cast-write-sent-2 : tie.Need-cast-write-sent-2
-cast-write-sent-2 c = search needs
 
 write-sent-requires : tie.Need-write-sent-requires
 write-sent-requires c κs = search needs
@@ -33,9 +30,8 @@ write-bytes-spec =
     (tie.spec
     place-in-requires
     data-length-requires
-    sub-write-sent
+    data-words-requires
     cast-write-sent
-    cast-write-sent-2
     write-sent-requires
     same-length
     returns)

@@ -8,14 +8,8 @@ size-requires c κs = search needs
 tx-buffers-requires : tie.Need-tx-buffers-requires
 tx-buffers-requires c κs = search needs
 
-dedicated-requires : tie.Need-dedicated-requires
-dedicated-requires c κs = search needs
-
-shared-requires : tie.Need-shared-requires
-shared-requires c κs = search needs
-
-add-area-in : tie.Need-add-area-in
-add-area-in c = search needs
+tx-count-requires : tie.Need-tx-count-requires
+tx-count-requires c κs = search needs
 
 element-words-requires : tie.Need-element-words-requires
 element-words-requires c κs = search needs
@@ -32,9 +26,7 @@ tx-area-spec =
     (tie.spec
     size-requires
     tx-buffers-requires
-    dedicated-requires
-    shared-requires
-    add-area-in
+    tx-count-requires
     element-words-requires
     area-in-requires
     returns)

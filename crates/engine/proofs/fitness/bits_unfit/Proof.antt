@@ -2,14 +2,8 @@ use borrow.Author.Needs.{needs}
 use Rattle.engine.proofs.fitness.bits_unfit.Statement.{statement}
 use Rattle.engine.proofs.fitness.bits_unfit.Tie as tie
 
-dedicated-requires : tie.Need-dedicated-requires
-dedicated-requires c κs = search needs
-
-shared-requires : tie.Need-shared-requires
-shared-requires c κs = search needs
-
-add-count : tie.Need-add-count
-add-count c = search needs
+tx-count-requires : tie.Need-tx-count-requires
+tx-count-requires c κs = search needs
 
 past32-requires : tie.Need-past32-requires
 past32-requires c κs = search needs
@@ -30,9 +24,7 @@ pub bits-unfit-spec : {M : Type 1} → statement M
 bits-unfit-spec =
     tie.close
     (tie.spec
-    dedicated-requires
-    shared-requires
-    add-count
+    tx-count-requires
     past32-requires
     past32-requires-2
     past32-requires-3

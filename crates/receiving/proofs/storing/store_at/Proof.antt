@@ -6,11 +6,8 @@ use Rattle.receiving.proofs.storing.store_at.Tie as tie
 place-in-requires : tie.Need-place-in-requires
 place-in-requires c κs = search needs
 
-sub-store-rx : tie.Need-sub-store-rx
-sub-store-rx c = search needs
-
-cast-store-rx : tie.Need-cast-store-rx
-cast-store-rx c = search needs
+data-words-requires : tie.Need-data-words-requires
+data-words-requires c κs = search needs
 
 store-rx-requires : tie.Need-store-rx-requires
 store-rx-requires c κs = search needs
@@ -24,4 +21,4 @@ returns c = search (stored-at, needs)
 pub store-at-spec : {M : Type 1} → statement M
 store-at-spec =
     tie.close
-    (tie.spec place-in-requires sub-store-rx cast-store-rx store-rx-requires same-length returns)
+    (tie.spec place-in-requires data-words-requires store-rx-requires same-length returns)

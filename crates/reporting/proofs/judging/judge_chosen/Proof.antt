@@ -3,14 +3,8 @@ use borrow.Author.Needs.{needs}
 use Rattle.reporting.proofs.judging.judge_chosen.Statement.{statement}
 use Rattle.reporting.proofs.judging.judge_chosen.Tie as tie
 
-dedicated-requires : tie.Need-dedicated-requires
-dedicated-requires c κs = search needs
-
-shared-requires : tie.Need-shared-requires
-shared-requires c κs = search needs
-
-add-if1 : tie.Need-add-if1
-add-if1 c = search needs
+tx-count-requires : tie.Need-tx-count-requires
+tx-count-requires c κs = search needs
 
 returns : tie.Need-returns
 returns c = search (report-none, needs)
@@ -31,9 +25,7 @@ pub judge-chosen-spec : {M : Type 1} → statement M
 judge-chosen-spec =
     tie.close
     (tie.spec
-    dedicated-requires
-    shared-requires
-    add-if1
+    tx-count-requires
     returns
     best-buffer-requires
     is-pick-requires

@@ -10,14 +10,11 @@ is-unfit-requires c κs = search needs
 returns : tie.Need-returns
 returns c = search (unfit-first, needs)
 
+tx-count-requires : tie.Need-tx-count-requires
+tx-count-requires c κs = search needs
+
 dedicated-requires : tie.Need-dedicated-requires
 dedicated-requires c κs = search needs
-
-shared-requires : tie.Need-shared-requires
-shared-requires c κs = search needs
-
-add-count : tie.Need-add-count
-add-count c = search needs
 
 is-queue-requires : tie.Need-is-queue-requires
 is-queue-requires c κs = search needs
@@ -34,9 +31,8 @@ judge-cancel-spec =
     (tie.spec
     is-unfit-requires
     returns
+    tx-count-requires
     dedicated-requires
-    shared-requires
-    add-count
     is-queue-requires
     judge-pending-requires
     returns-2)

@@ -1,4 +1,4 @@
-use Rattle.sending.proofs.Requests.{none-free, free-requestable, free-done}
+use Rattle.sending.proofs.Requests.{none-free, free-requestable, free-room, free-done}
 use borrow.Author.Needs.{needs}
 use Rattle.sending.proofs.requesting.request_free.Statement.{statement}
 use Rattle.sending.proofs.requesting.request_free.Tie as tie
@@ -13,7 +13,7 @@ returns : tie.Need-returns
 returns c = search (none-free, needs)
 
 request-at-requires : tie.Need-request-at-requires
-request-at-requires c κs = search (free-requestable, needs)
+request-at-requires c κs = search (free-requestable, free-room, needs)
 
 same-length : tie.Need-same-length
 same-length c = search needs

@@ -6,11 +6,8 @@ use Rattle.sending.proofs.requesting.write_request.Tie as tie
 place-in-requires : tie.Need-place-in-requires
 place-in-requires c κs = search needs
 
-sub-store-tx : tie.Need-sub-store-tx
-sub-store-tx c = search needs
-
-cast-store-tx : tie.Need-cast-store-tx
-cast-store-tx c = search needs
+data-words-requires : tie.Need-data-words-requires
+data-words-requires c κs = search needs
 
 store-tx-requires : tie.Need-store-tx-requires
 store-tx-requires c κs = search needs
@@ -24,4 +21,4 @@ returns c = search (request-written, needs)
 pub write-request-spec : {M : Type 1} → statement M
 write-request-spec =
     tie.close
-    (tie.spec place-in-requires sub-store-tx cast-store-tx store-tx-requires same-length returns)
+    (tie.spec place-in-requires data-words-requires store-tx-requires same-length returns)

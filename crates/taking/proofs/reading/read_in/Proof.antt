@@ -9,11 +9,8 @@ returns c = search (read-wrong, needs)
 place-in-requires : tie.Need-place-in-requires
 place-in-requires c κs = search needs
 
-sub-read-rx : tie.Need-sub-read-rx
-sub-read-rx c = search needs
-
-cast-read-rx : tie.Need-cast-read-rx
-cast-read-rx c = search needs
+data-words-requires : tie.Need-data-words-requires
+data-words-requires c κs = search needs
 
 read-rx-requires : tie.Need-read-rx-requires
 read-rx-requires c κs = search needs
@@ -30,8 +27,7 @@ read-in-spec =
     (tie.spec
     returns
     place-in-requires
-    sub-read-rx
-    cast-read-rx
+    data-words-requires
     read-rx-requires
     same-length
     returns-2)
