@@ -85,6 +85,9 @@ module _ (state status : List ℕ) (lengths words : Bool) (n : ℕ) (d : n ≡ e
   pub open-status : length status ≡ 2
   open-status = eqb-true (length status) 2 (all-sized .1)
 
+  pub open-plain : plainRegisters state ≡ true
+  open-plain = and-both (plainRegisters state) words (not-false (plainRegisters state && words) (no-rule .1)) .0
+
   ruling-allowed : entryRuling state status lengths words ≡ allowed
   unfolding entryRuling
   ruling-allowed = rw (no-rule .0, no-rule .1)

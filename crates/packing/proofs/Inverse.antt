@@ -6,13 +6,15 @@ use mathlib.Core.Bool.{Bool, true, false, _&&_}
 use mathlib.Core.List.{List}
 use native.Mathlib.Omega.{arith}
 use borrow.Author.Tests.{ltb-true}
-use lib.Dec.{eqb, ltb}
 use lib.ListN.{length}
 use Rattle.words.specs.Runs.{run}
 use Rattle.words.proofs.Choices.{and-both}
+use Rattle.frame.specs.declared.Frame.{Frame}
 use Rattle.engine.specs.declared.state.State.{State}
-use Rattle.packing.specs.States.{yesNo, saysYes, isYesNo, plainRegisters, packState, unpackState}
-use Rattle.packing.proofs.Spelled.{at, spelled}
+use Rattle.packing.specs.States.{word, yesNo, saysYes, isYesNo, plainRegisters, packState, unpackState, packRecord, unpackRecord}
+use Rattle.packing.specs.Frames.{plainFrame, packFrame, unpackFrame}
+use Rattle.packing.specs.Promises.{ValuesComeBack, WordsComeBack, RegistersComeFirst}
+use Rattle.packing.proofs.Spelled.{spelled}
 
 -- a word of yes or no
 yes-back : (b : Bool) → saysYes (yesNo b) ≡ b
@@ -34,7 +36,9 @@ lower a b h = omega arith
 upper : (a b : ℕ) → a < 2 ^ 32 → (a + b * 2 ^ 32) / 2 ^ 32 ≡ b
 upper a b h = omega arith
 
-pub state-back : (s : State) → unpackState (packState s) ≡ s
+-- ---- a value to words and back
+
+state-back : (s : State) → unpackState (packState s) ≡ s
 unfolding packState unpackState
 state-back s = λ i. record {
   regs = record {
@@ -63,9 +67,54 @@ state-back s = λ i. record {
   cancelled = s .cancelled;
 }
 
-pub state-forth : (ws : List ℕ) → length ws ≡ 27 → plainRegisters ws ≡ true → at ws 22 < 2 ^ 32 → packState (unpackState ws) ≡ ws
+frame-back : (f : Frame) → unpackFrame (packFrame f) ≡ f
+unfolding packFrame
+frame-back f = λ i. record {
+  id = f .id;
+  xtd = yes-back (f .xtd) i;
+  rtr = yes-back (f .rtr) i;
+  fdf = yes-back (f .fdf) i;
+  brs = yes-back (f .brs) i;
+  esi = yes-back (f .esi) i;
+  dlc = f .dlc;
+}
+
+pub values-come-back : ValuesComeBack
+values-come-back = record { state = state-back; status = λ r. refl; frame = frame-back }
+
+-- ---- words to a value and back
+
+-- words of this number are those that stand at their places
+spelled-out : (ws : List ℕ) (n : ℕ) → length ws ≡ n → run (word ws) 0 n ≡ ws
+spelled-out ws n e = ap (run (word ws) 0) (sym e) ∙ spelled ws
+
+state-forth : (ws : List ℕ) → length ws ≡ 27 → word ws 22 < 2 ^ 32 → plainRegisters ws ≡ true → packState (unpackState ws) ≡ ws
 unfolding packState unpackState run
-state-forth ws e plain low =
-    let p = and-both (isYesNo (at ws 12)) (isYesNo (at ws 13)) plain in
-    let z : packState (unpackState ws) ≡ run (at ws) 0 27 = cc (yes-forth (at ws 12) (p .0), yes-forth (at ws 13) (p .1), lower (at ws 22) (at ws 23) low, upper (at ws 22) (at ws 23) low) in
-    z ∙ ap (run (at ws) 0) (sym e) ∙ spelled ws
+state-forth ws e low plain =
+    let p = and-both (isYesNo (word ws 12)) (isYesNo (word ws 13)) plain in
+    let z : packState (unpackState ws) ≡ run (word ws) 0 27 =
+    cc (yes-forth (word ws 12) (p .0), yes-forth (word ws 13) (p .1), lower (word ws 22) (word ws 23) low, upper (word ws 22) (word ws 23) low) in
+    z ∙ spelled-out ws 27 e
+
+record-forth : (ws : List ℕ) → length ws ≡ 2 → packRecord (unpackRecord ws) ≡ ws
+unfolding run
+record-forth ws e = spelled-out ws 2 e
+
+frame-forth : (ws : List ℕ) → length ws ≡ 7 → plainFrame ws ≡ true → packFrame (unpackFrame ws) ≡ ws
+unfolding packFrame run
+frame-forth ws e plain =
+    let yes : ℕ → Bool = λ n. isYesNo (word ws n) in
+    let p = and-both (yes 1 && yes 2 && yes 3 && yes 4) (yes 5) plain in
+    let q = and-both (yes 1 && yes 2 && yes 3) (yes 4) (p .0) in
+    let r = and-both (yes 1 && yes 2) (yes 3) (q .0) in
+    let t = and-both (yes 1) (yes 2) (r .0) in
+    let z : packFrame (unpackFrame ws) ≡ run (word ws) 0 7 =
+    cc (yes-forth (word ws 1) (t .0), yes-forth (word ws 2) (t .1), yes-forth (word ws 3) (r .1), yes-forth (word ws 4) (q .1), yes-forth (word ws 5) (p .1)) in
+    z ∙ spelled-out ws 7 e
+
+pub words-come-back : WordsComeBack
+words-come-back = record { state = λ ws e small plain. state-forth ws e (small 22) plain; status = record-forth; frame = frame-forth }
+
+pub registers-come-first : RegistersComeFirst
+unfolding unpackState
+registers-come-first ws = refl

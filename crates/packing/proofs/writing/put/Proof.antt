@@ -3,7 +3,8 @@ use denote.Ref.{now}
 use mathlib.Core.Path.{_≡_, refl}
 use lib.ListN.{length, length-set}
 use Rattle.words.specs.Runs.{run, splice}
-use Rattle.packing.proofs.Spelled.{at as word, put-none, put-turn, put-done}
+use Rattle.packing.specs.States.{word}
+use Rattle.packing.proofs.Spelled.{put-none, put-turn, put-done}
 use borrow.Author.Needs.{needs}
 use Rattle.packing.proofs.writing.put.Statement.{statement}
 use Rattle.packing.proofs.writing.put.Tie as tie
