@@ -18,11 +18,11 @@ use Rattle.engine.specs.declared.state.State.{State}
 use Rattle.engine.specs.declared.state.Record.{Record}
 use Rattle.engine.proofs.Fits.{refused-start-changes-nothing}
 use Rattle.receiving.specs.Receive.{receiveRule}
-use Rattle.receiving.specs.Reading.{ReadOutcome}
-use Rattle.receiving.specs.Releasing.{ReleaseOutcome}
+use Rattle.taking.specs.Reading.{ReadOutcome}
+use Rattle.taking.specs.Releasing.{ReleaseOutcome}
 use Rattle.receiving.proofs.Refusals.{no-refusal, refusals-change-nothing}
 use Rattle.choosing.specs.Choosing.{choiceRule}
-use Rattle.choosing.specs.Reporting.{reportRule}
+use Rattle.reporting.specs.Reporting.{reportRule}
 use Rattle.sending.specs.Requesting.{RequestOutcome}
 use Rattle.sending.specs.Cancelling.{cancelRule}
 use Rattle.sending.specs.Events.{readEventRule, acknowledgeEventRule}
