@@ -1,5 +1,6 @@
 pub mod Settled
 pub mod Exact
+pub mod Meanings
 pub mod Unchanged
 pub mod StillFit
 pub mod Ties

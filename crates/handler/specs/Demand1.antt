@@ -6,7 +6,10 @@ use mathlib.Core.List.{List}
 use mathlib.Core.Logic.{_↔_}
 use lib.ListN.{length, getD}
 use Rattle.words.specs.Rules.{allowed, refused}
+use Rattle.frame.specs.Malformed.{malformed, WellFormed}
+use Rattle.frame.specs.declared.Frame.{Frame}
 use Rattle.engine.specs.Fitness.{unfit}
+use Rattle.engine.specs.Promises.{FitIsSound}
 use Rattle.ledger.specs.Histories.{after}
 use Rattle.handler.specs.Calls.{World, Call, readFifo, readBuffer, askChoice, refusal}
 use Rattle.handler.specs.Named.{SameBut, named, lent, output, written, Part, Same, isIn, changed}
@@ -28,6 +31,11 @@ pub record Exactly (w : World) (c : Call) : Type 0 where
 
 abbrev pub RefusalsAreExact : Type 0
 RefusalsAreExact = (w : World) (c : Call) → Exactly w c
+
+-- the table's two longest tests, said as facts: a frame is not malformed exactly where it is well-formed, and a world is fit exactly where its state and flags are sound
+pub record TestsMean : Type 0 where
+  pub formed : (f : Frame) (len : ℕ) → (malformed f len ≡ false) ↔ WellFormed f len
+  pub fit : FitIsSound
 
 -- a refused call leaves the world as it was
 abbrev pub RefusalsChangeNothing : Type 0
