@@ -3,7 +3,7 @@ use choosing::asking;
 use choosing::reporting;
 use choosing::reporting::AfterReport;
 use crossing::entering::enter;
-use crossing::entering::put_both;
+use packing::states::put_both;
 use packing::states::take_record;
 use packing::states::take_state;
 use telling::answers::ANSWER_WORDS;
@@ -12,8 +12,8 @@ use telling::numbers::reply_number;
 ghost use mathlib.Core.Path.{_≡_};
 ghost use mathlib.Core.List.{[]};
 ghost use Rattle.choosing.specs.Reporting.{reportOutcome, reportRule};
-ghost use Rattle.packing.specs.States.{unpackState, unpackRecord};
-ghost use Rattle.crossing.specs.Crossing.{outcome, lent, Unpackable};
+ghost use Rattle.packing.specs.States.{unpackState, unpackRecord, Unpackable};
+ghost use Rattle.crossing.specs.Crossing.{outcome, lent};
 ghost use Rattle.crossing_choosing.specs.ChoosingCalls.{askChoiceCall, reportSentCall};
 
 pub fn ask_choice(
