@@ -29,16 +29,17 @@ use Rattle.sending.specs.Events.{readEventRule, acknowledgeEventRule}
 use Rattle.sending.specs.Promises.{LeavesAll as LeavesAllSent}
 use Rattle.sending.proofs.Changes.{refused-leaves-all}
 use Rattle.packing.specs.Frames.{plainFrame, unpackFrame}
-use Rattle.packing.specs.States.{saysYes, isYesNo, plainRegisters, unpackRegisters, packState, packRecord}
+use Rattle.packing.specs.Words.{saysYes, isYesNo}
+use Rattle.packing.specs.States.{plainRegisters, unpackRegisters, packState, packRecord}
 use Rattle.packing.specs.Promises.{Fit32}
 use Rattle.packing.proofs.Inverse.{words-come-back}
 use Rattle.telling.specs.Telling.{resultOf, toldIn, fateWords, readWords, bufferWords, choiceWords, eventWords, overviewWords, startResult, startWords}
 use Rattle.crossing.specs.Crossing.{Lent, lent, Outcome, outcome, has, stateOf, recordOf, entryRuling, crossing}
 use Rattle.crossing.specs.EngineCalls.{neverStartedCall, startCall, clearCall, statusCall}
 use Rattle.crossing.proofs.Entries.{open-state, open-status, open-plain}
-use Rattle.crossing_receiving.specs.ReceivingCalls.{received, read, released, receiveCall, readFifoCall, acknowledgeFifoCall, readBufferCall, releaseBufferCall}
-use Rattle.crossing_choosing.specs.ChoosingCalls.{chosen, reported, askChoiceCall, reportSentCall}
-use Rattle.crossing_sending.specs.SendingCalls.{requested, cancelled, eventRead, acknowledged, requestDedicatedCall, requestSharedCall, cancelCall, readEventCall, acknowledgeEventCall}
+use Rattle.crossing_receiving.specs.ReceivingCalls.{read, released, receiveCall, readFifoCall, acknowledgeFifoCall, readBufferCall, releaseBufferCall}
+use Rattle.crossing_choosing.specs.ChoosingCalls.{askChoiceCall, reportSentCall}
+use Rattle.crossing_sending.specs.SendingCalls.{requested, requestDedicatedCall, requestSharedCall, cancelCall, readEventCall, acknowledgeEventCall}
 use Rattle.boundary.specs.Promises.{Leaves, LeavesButAnswer, LeavesAll, RefusalsLeaveAll}
 
 -- the state and the record that a call was given, packed again, are the words that were lent
@@ -93,7 +94,7 @@ refused-clear-keeps s r words mask n e = clear-kept (first (refuseIf (unfit s r 
 
 module _ (l : Lent) (small : Fit32 (l .state)) where
   receive-leaves : (frame bytes : List ℕ) (time : ℕ) → Leaves l (receiveCall l frame bytes time)
-  unfolding receiveCall received
+  unfolding receiveCall
   receive-leaves frame bytes time =
       let o = receiveRule (stateOf l) (recordOf l) (l .memory) (unpackFrame frame) bytes time in
       crossing-leaves l small (has frame 7 && has (l .answer) 16) (plainFrame frame) _
@@ -119,7 +120,7 @@ module _ (l : Lent) (small : Fit32 (l .state)) where
   sends = refused-leaves-all (stateOf l) (recordOf l) (l .memory)
 
   cancel-leaves : (buffer : ℕ) → Leaves l (cancelCall l buffer)
-  unfolding cancelCall cancelled
+  unfolding cancelCall
   cancel-leaves buffer =
       let o = cancelRule (stateOf l) (recordOf l) (length (l .memory)) buffer in
       crossing-leaves l small true true _
@@ -127,14 +128,14 @@ module _ (l : Lent) (small : Fit32 (l .state)) where
       (λ n e. let u = sends .cancel (length (l .memory)) buffer n e in (ap packState (u .0) ∙ g .state, ap packRecord (u .1) ∙ g .status, refl)))
 
   choice-leaves : (passive : ℕ) → Leaves l (askChoiceCall l passive)
-  unfolding askChoiceCall chosen
+  unfolding askChoiceCall
   choice-leaves passive =
       let o = choiceRule (stateOf l) (recordOf l) (l .memory) (saysYes passive) (l .output) in
       crossing-leaves l small (has (l .answer) 16) (isYesNo passive) _
       (λ g. says-leaves l choiceWords (o .says) (l .state) (l .status) (l .memory) (o .output) (λ n e. (refl, refl, refl, sends .choice (saysYes passive) (l .output) n e)))
 
   report-leaves : (buffer passive time : ℕ) → Leaves l (reportSentCall l buffer passive time)
-  unfolding reportSentCall reported
+  unfolding reportSentCall
   report-leaves buffer passive time =
       let o = reportRule (stateOf l) (recordOf l) (l .memory) buffer (saysYes passive) time in
       crossing-leaves l small true (isYesNo passive) _
@@ -142,13 +143,13 @@ module _ (l : Lent) (small : Fit32 (l .state)) where
       (λ n e. let u = sends .report buffer (saysYes passive) time n e in (ap packState (u .0) ∙ g .state, ap packRecord (u .1) ∙ g .status, u .2)))
 
   event-leaves : (place : ℕ) → Leaves l (readEventCall l place)
-  unfolding readEventCall eventRead
+  unfolding readEventCall
   event-leaves place =
       crossing-leaves l small (has (l .answer) 16) true _
       (λ g. says-leaves l eventWords (readEventRule (stateOf l) (recordOf l) (l .memory) place) (l .state) (l .status) (l .memory) (l .output) (λ n e. (refl, refl, refl, refl)))
 
   acknowledge-leaves : (place : ℕ) → Leaves l (acknowledgeEventCall l place)
-  unfolding acknowledgeEventCall acknowledged
+  unfolding acknowledgeEventCall
   acknowledge-leaves place =
       let o = acknowledgeEventRule (stateOf l) (recordOf l) (length (l .memory)) place in
       crossing-leaves l small true true _

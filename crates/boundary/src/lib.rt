@@ -22,7 +22,7 @@ pub extern "C" fn cuongphemi_never_started(state: &mut [u32]) -> u32
     engine_calls::never_started(state)
 }
 
-// Call 1.
+// Call 1, start.
 #[no_mangle]
 pub extern "C" fn cuongphemi_start(
     state: &mut [u32],
@@ -36,7 +36,7 @@ pub extern "C" fn cuongphemi_start(
     engine_calls::start(state, status, mem, registers, answer)
 }
 
-// Call 2.
+// Call 2, receive.
 #[no_mangle]
 pub extern "C" fn cuongphemi_receive(
     state: &mut [u32],
@@ -52,7 +52,7 @@ pub extern "C" fn cuongphemi_receive(
     receives::receive(state, status, mem, frame, bytes, time, answer)
 }
 
-// Call 3.
+// Call 3, read in a FIFO.
 #[no_mangle]
 pub extern "C" fn cuongphemi_read_fifo(
     state: &[u32],
@@ -68,7 +68,7 @@ pub extern "C" fn cuongphemi_read_fifo(
     reads::read_fifo(state, status, mem, fifo, place, out, answer)
 }
 
-// Call 4.
+// Call 4, acknowledge in a FIFO.
 #[no_mangle]
 pub extern "C" fn cuongphemi_acknowledge_fifo(
     state: &mut [u32],
@@ -82,7 +82,7 @@ pub extern "C" fn cuongphemi_acknowledge_fifo(
     releases::acknowledge_fifo(state, status, mem, fifo, place)
 }
 
-// Call 5.
+// Call 5, read an Rx buffer.
 #[no_mangle]
 pub extern "C" fn cuongphemi_read_buffer(
     state: &[u32],
@@ -97,7 +97,7 @@ pub extern "C" fn cuongphemi_read_buffer(
     reads::read_buffer(state, status, mem, buffer, out, answer)
 }
 
-// Call 6.
+// Call 6, release an Rx buffer.
 #[no_mangle]
 pub extern "C" fn cuongphemi_release_buffer(
     state: &mut [u32],
@@ -110,7 +110,7 @@ pub extern "C" fn cuongphemi_release_buffer(
     releases::release_buffer(state, status, mem, buffer)
 }
 
-// Call 7.
+// Call 7, request a dedicated buffer.
 #[no_mangle]
 pub extern "C" fn cuongphemi_request_dedicated(
     state: &mut [u32],
@@ -138,7 +138,7 @@ pub extern "C" fn cuongphemi_request_dedicated(
     )
 }
 
-// Call 8.
+// Call 8, request the shared part.
 #[no_mangle]
 pub extern "C" fn cuongphemi_request_shared(
     state: &mut [u32],
@@ -155,7 +155,7 @@ pub extern "C" fn cuongphemi_request_shared(
     requests::request_shared(state, status, mem, frame, bytes, marker, wish, answer)
 }
 
-// Call 9.
+// Call 9, cancel.
 #[no_mangle]
 pub extern "C" fn cuongphemi_cancel(
     state: &mut [u32],
@@ -168,7 +168,7 @@ pub extern "C" fn cuongphemi_cancel(
     cancels::cancel(state, status, mem, buffer)
 }
 
-// Call 10.
+// Call 10, ask the choice.
 #[no_mangle]
 pub extern "C" fn cuongphemi_ask_choice(
     state: &[u32],
@@ -183,7 +183,7 @@ pub extern "C" fn cuongphemi_ask_choice(
     crossing_choosing::ask_choice(state, status, mem, passive, out, answer)
 }
 
-// Call 11.
+// Call 11, report sent.
 #[no_mangle]
 pub extern "C" fn cuongphemi_report_sent(
     state: &mut [u32],
@@ -198,7 +198,7 @@ pub extern "C" fn cuongphemi_report_sent(
     crossing_choosing::report_sent(state, status, mem, buffer, passive, time)
 }
 
-// Call 12.
+// Call 12, read an event.
 #[no_mangle]
 pub extern "C" fn cuongphemi_read_event(
     state: &[u32],
@@ -212,7 +212,7 @@ pub extern "C" fn cuongphemi_read_event(
     event_calls::read_event(state, status, mem, place, answer)
 }
 
-// Call 13.
+// Call 13, acknowledge an event.
 #[no_mangle]
 pub extern "C" fn cuongphemi_acknowledge_event(
     state: &mut [u32],
@@ -225,7 +225,7 @@ pub extern "C" fn cuongphemi_acknowledge_event(
     event_calls::acknowledge_event(state, status, mem, place)
 }
 
-// Call 14.
+// Call 14, clear flags.
 #[no_mangle]
 pub extern "C" fn cuongphemi_clear_flags(
     state: &[u32],
@@ -238,7 +238,7 @@ pub extern "C" fn cuongphemi_clear_flags(
     engine_calls::clear_flags(state, status, mem, mask)
 }
 
-// Call 15.
+// Call 15, status.
 #[no_mangle]
 pub extern "C" fn cuongphemi_status(
     state: &[u32],

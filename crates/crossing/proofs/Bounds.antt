@@ -1,20 +1,20 @@
 -- What an answer tells fits its words.
 -- Assumes nothing.
-use Prim.Native.Nat.{ℕ, _+_, _-_, _<_, _≤_}
+use Prim.Native.Nat.{ℕ, _+_, _-_, _≤_}
 use mathlib.Core.Path.{_≡_, refl, sym, ap, subst}
 use mathlib.Core.Bool.{Bool, true, false, not}
-use mathlib.Core.List.{List, [], _∷_}
+use mathlib.Core.List.{List}
 use native.Mathlib.Omega.{arith}
 use borrow.Author.Tests.{ltb-true}
 use lib.Dec.{eqb, ltb}
-use lib.ListN.{length, getD}
+use lib.ListN.{getD}
 use Rattle.words.specs.Least.{leastFrom}
-use Rattle.words.specs.Rules.{Ruling, allowed, refused, refuseIf, _orElse_, first}
+use Rattle.words.specs.Rules.{Ruling, allowed, refused, refuseIf, _orElse_}
 use Rattle.words.proofs.Lowest.{least-within}
 use Rattle.registers.specs.Given.{allNamed}
 use Rattle.registers.specs.declared.Registers.{Registers}
 use Rattle.layout.specs.Sections.{none, memoryWords, sectionsOf}
-use Rattle.layout.specs.Verdict.{Refusal, names, meaning, memoryRule, bitsRule, countRule, txRule, endRule, over, past, shares, partner, hasPartner, pairRule, firstWith, rules, verdict}
+use Rattle.layout.specs.Verdict.{Refusal, names, meaning, memoryRule, bitsRule, countRule, txRule, endRule, over, past, shares, partner, hasPartner, pairRule, firstWith, verdict}
 use Rattle.layout.specs.declared.sections.Section.{Section}
 use Rattle.engine.specs.Areas.{dedicated, shared}
 use Rattle.engine.specs.Starting.{startOutcome, startRule}

@@ -1,6 +1,5 @@
 -- What is lent to a call from C, and what the boundary itself finds against one.
 use Prim.Native.Nat.{ℕ}
-use mathlib.Core.Path.{_≡_}
 use mathlib.Core.Bool.{Bool, not, _&&_}
 use mathlib.Core.List.{List, [], _∷_}
 use lib.Dec.{eqb}
@@ -53,8 +52,3 @@ recordOf l = unpackRecord (l .status)
 -- the number that a call from C returns at once, 0 for none
 abbrev pub entryNumber : List ℕ → List ℕ → Bool → Bool → ℕ
 entryNumber state status lengths words = settle (entryRuling state status lengths words) 0 (λ n. n)
-
--- a state and a record can be taken from these words, and put there
-pub record Unpackable (state status : List ℕ) : Type 0 where
-  pub states : length state ≡ 27
-  pub records : length status ≡ 2

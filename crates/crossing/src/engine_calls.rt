@@ -2,12 +2,12 @@
 use crate::entering::WRONG_LENGTH;
 use crate::entering::enter;
 use crate::entering::enter_registers;
-use crate::entering::put_both;
 use engine::overview;
 use engine::starting;
 use engine::starting::Started;
 use engine::state::State;
 use packing::states::STATE_WORDS;
+use packing::states::put_both;
 use packing::states::put_record;
 use packing::states::put_state;
 use packing::states::take_record;
@@ -22,8 +22,8 @@ ghost use mathlib.Core.List.{[]};
 ghost use Prim.Native.Nat.{_≤_};
 ghost use lib.ListN.{length};
 ghost use Rattle.engine.specs.Starting.{startOutcome, startRule};
-ghost use Rattle.packing.specs.States.{unpackRegisters, unpackState, unpackRecord};
-ghost use Rattle.crossing.specs.Crossing.{outcome, lent, Unpackable};
+ghost use Rattle.packing.specs.States.{unpackRegisters, unpackState, unpackRecord, Unpackable};
+ghost use Rattle.crossing.specs.Crossing.{outcome, lent};
 ghost use Rattle.crossing.specs.EngineCalls.{neverStartedCall, startCall, clearCall, statusCall};
 
 // Writes a state for which every call but a start answers 20.

@@ -1,21 +1,17 @@
 // What the boundary itself finds against a call.
-use engine::state::Record;
-use engine::state::State;
 use packing::frames;
 use packing::frames::FRAME_WORDS;
 use packing::states::RECORD_WORDS;
 use packing::states::REGISTER_WORDS;
 use packing::states::STATE_WORDS;
 use packing::states::is_plain;
-use packing::states::put_record;
-use packing::states::put_state;
 use telling::answers::ANSWER_WORDS;
 ghost use mathlib.Core.Path.{_≡_};
 ghost use mathlib.Core.Bool.{_&&_};
 ghost use lib.Dec.{eqb};
 ghost use Rattle.packing.specs.Frames.{plainFrame};
-ghost use Rattle.packing.specs.States.{plainRegisters, packState, packRecord};
-ghost use Rattle.crossing.specs.Crossing.{has, entryNumber, Unpackable};
+ghost use Rattle.packing.specs.States.{plainRegisters};
+ghost use Rattle.crossing.specs.Crossing.{has, entryNumber};
 
 // A lent buffer of the boundary's own has another length than its own.
 pub const WRONG_LENGTH: u32 = 100;
@@ -50,13 +46,4 @@ pub fn enter_frame(state: &[u32], status: &[u32], frame: &[u32], answer: usize, 
 {
     let lengths = (frame.len() == FRAME_WORDS) & (answer == ANSWER_WORDS);
     enter(state, status, lengths, words & frames::is_plain(frame))
-}
-
-// The state and the record are written back.
-pub fn put_both(state: &mut [u32], status: &mut [u32], s: State, r: Record)
-    requires { ⌜ Unpackable (now state) (now status) ⌝ }
-    ensures { λ _. ⌜ (now (state .exit) ≡ packState s) × (now (status .exit) ≡ packRecord r) ⌝ }
-{
-    put_state(state, s);
-    put_record(status, r)
 }

@@ -11,18 +11,19 @@ use Rattle.choosing.specs.Choosing.{ChoiceOutcome, choiceOutcome, choiceRule, m
 use Rattle.reporting.specs.Reporting.{ReportOutcome, reportOutcome, reportRule}
 use Rattle.choosing.specs.declared.asking.ChoiceAnswer.{ChoiceAnswer}
 use Rattle.reporting.specs.declared.report.AfterReport.{AfterReport}
-use Rattle.packing.specs.States.{saysYes, isYesNo, unpackState, unpackRecord, packState, packRecord}
+use Rattle.packing.specs.Words.{saysYes, isYesNo}
+use Rattle.packing.specs.States.{unpackState, unpackRecord, packState, packRecord}
 use Rattle.telling.specs.Telling.{resultOf, toldIn, choiceWords}
 use Rattle.crossing.specs.Crossing.{lent, outcome, has, entryNumber}
 use Rattle.crossing.proofs.Entries.{alike, crossed}
-use Rattle.crossing_choosing.specs.ChoosingCalls.{chosen, reported, askChoiceCall, reportSentCall}
+use Rattle.crossing_choosing.specs.ChoosingCalls.{askChoiceCall, reportSentCall}
 
 module _ (state status mem answer out : List ℕ) (n : ℕ) (f : n ≡ 0) where
   -- call 10
   pub choice-told : (passive : ℕ) (a : ChoiceAnswer) (s : State) (r : Record) (k : ℕ) (m after : List ℕ) → n ≡ entryNumber state status (has answer 16) (isYesNo passive)
       → s ≡ unpackState state → r ≡ unpackRecord status → choiceOutcome a after ≡ choiceRule s r mem (saysYes passive) out → k ≡ resultOf (choiceSays a) → m ≡ toldIn choiceWords answer (choiceSays a)
       → outcome k (lent state status mem m after) ≡ askChoiceCall (lent state status mem answer out) passive
-  unfolding askChoiceCall chosen
+  unfolding askChoiceCall
   choice-told passive a s r k m after d x y h w z =
       let same : choiceOutcome a after ≡ choiceRule (unpackState state) (unpackRecord status) mem (saysYes passive) out = cc in
       alike (w ∙ ap (λ (o : ChoiceOutcome). resultOf (o .says)) same) refl refl refl (z ∙ ap (λ (o : ChoiceOutcome). toldIn choiceWords answer (o .says)) same) (ap (λ (o : ChoiceOutcome). o .output) same)
@@ -32,7 +33,7 @@ module _ (state status mem answer out : List ℕ) (n : ℕ) (f : n ≡ 0) where
   pub report-left : (buffer passive time : ℕ) (a : AfterReport) (k : ℕ) (st re me : List ℕ) → n ≡ entryNumber state status true (isYesNo passive)
       → reportOutcome a me ≡ reportRule (unpackState state) (unpackRecord status) mem buffer (saysYes passive) time → st ≡ packState (a .state) → re ≡ packRecord (a .status) → k ≡ resultOf (replied (a .reply))
       → outcome k (lent st re me answer out) ≡ reportSentCall (lent state status mem answer out) buffer passive time
-  unfolding reportSentCall reported
+  unfolding reportSentCall
   report-left buffer passive time a k st re me d h b c w =
       alike (w ∙ ap (λ (o : ReportOutcome). resultOf (o .says)) h) (b ∙ ap (λ (o : ReportOutcome). packState (o .state)) h) (c ∙ ap (λ (o : ReportOutcome). packRecord (o .status)) h) (ap (λ (o : ReportOutcome). o .memory) h) refl refl
       ∙ crossed (lent state status mem answer out) true (isYesNo passive) _ n d f

@@ -1,1 +1,2 @@
 pub mod ChoosingCalls
+pub mod Promises

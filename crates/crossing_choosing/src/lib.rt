@@ -1,7 +1,7 @@
 // Calls 10 and 11 on words.
 use choosing::asking;
 use crossing::entering::enter;
-use crossing::entering::put_both;
+use packing::states::put_both;
 use packing::states::take_record;
 use packing::states::take_state;
 use reporting::report;
@@ -12,8 +12,8 @@ use telling::numbers::reply_number;
 ghost use mathlib.Core.Path.{_≡_};
 ghost use mathlib.Core.List.{[]};
 ghost use Rattle.reporting.specs.Reporting.{reportOutcome, reportRule};
-ghost use Rattle.packing.specs.States.{unpackState, unpackRecord};
-ghost use Rattle.crossing.specs.Crossing.{outcome, lent, Unpackable};
+ghost use Rattle.packing.specs.States.{unpackState, unpackRecord, Unpackable};
+ghost use Rattle.crossing.specs.Crossing.{outcome, lent};
 ghost use Rattle.crossing_choosing.specs.ChoosingCalls.{askChoiceCall, reportSentCall};
 
 pub fn ask_choice(

@@ -19,7 +19,7 @@ use Rattle.packing.specs.States.{unpackState, unpackRecord, packState, packReco
 use Rattle.telling.specs.Telling.{resultOf, toldIn, fateWords, readWords}
 use Rattle.crossing.specs.Crossing.{lent, outcome, has, entryNumber, crossing}
 use Rattle.crossing.proofs.Entries.{alike, crossed}
-use Rattle.crossing_receiving.specs.ReceivingCalls.{received, read, released, receiveCall, readFifoCall, acknowledgeFifoCall, readBufferCall, releaseBufferCall}
+use Rattle.crossing_receiving.specs.ReceivingCalls.{read, released, receiveCall, readFifoCall, acknowledgeFifoCall, readBufferCall, releaseBufferCall}
 
 module _ (state status mem answer out : List ℕ) (n : ℕ) (f : n ≡ 0) where
   -- call 2
@@ -27,7 +27,7 @@ module _ (state status mem answer out : List ℕ) (n : ℕ) (f : n ≡ 0) where
       → receiveOutcome a me ≡ receiveRule (unpackState state) (unpackRecord status) mem (unpackFrame frame) bytes time → st ≡ packState (a .state) → re ≡ packRecord (a .status)
       → k ≡ resultOf (receiveSays (a .answer)) → m ≡ toldIn fateWords answer (receiveSays (a .answer))
       → outcome k (lent st re me m out) ≡ receiveCall (lent state status mem answer out) frame bytes time
-  unfolding receiveCall received
+  unfolding receiveCall
   received-told frame bytes time a k st re me m d h b c w z =
       alike (w ∙ ap (λ (o : ReceiveOutcome). resultOf (o .says)) h) (b ∙ ap (λ (o : ReceiveOutcome). packState (o .state)) h) (c ∙ ap (λ (o : ReceiveOutcome). packRecord (o .status)) h)
       (ap (λ (o : ReceiveOutcome). o .memory) h) (z ∙ ap (λ (o : ReceiveOutcome). toldIn fateWords answer (o .says)) h) refl

@@ -3,7 +3,7 @@ use Prim.Native.Nat.{ℕ}
 use mathlib.Core.Bool.{true, _&&_}
 use mathlib.Core.List.{List}
 use lib.ListN.{length}
-use Rattle.receiving.specs.Receive.{ReceiveOutcome, receiveRule}
+use Rattle.receiving.specs.Receive.{receiveRule}
 use Rattle.taking.specs.Reading.{ReadOutcome, readFifoRule, readBufferRule}
 use Rattle.taking.specs.Releasing.{ReleaseOutcome, acknowledgeRule, releaseRule}
 use Rattle.packing.specs.Frames.{plainFrame, unpackFrame}
@@ -11,10 +11,7 @@ use Rattle.packing.specs.States.{packState, packRecord}
 use Rattle.telling.specs.Telling.{resultOf, toldIn, fateWords, readWords}
 use Rattle.crossing.specs.Crossing.{Lent, lent, Outcome, outcome, has, stateOf, recordOf, crossing}
 
--- what a receive, a read and a release leave, in words
-unfoldable pub received : Lent → ReceiveOutcome → Outcome
-received l o = outcome (resultOf (o .says)) (lent (packState (o .state)) (packRecord (o .status)) (o .memory) (toldIn fateWords (l .answer) (o .says)) (l .output))
-
+-- what a read and a release leave, in words
 unfoldable pub read : Lent → ReadOutcome → Outcome
 read l o = outcome (resultOf (o .says)) (lent (l .state) (l .status) (l .memory) (toldIn readWords (l .answer) (o .says)) (o .output))
 
@@ -25,7 +22,8 @@ released l o = outcome (resultOf (o .says)) (lent (packState (o .state)) (l .sta
 unfoldable pub receiveCall : Lent → List ℕ → List ℕ → ℕ → Outcome
 receiveCall l frame bytes time =
     crossing l (has frame 7 && has (l .answer) 16) (plainFrame frame)
-    (received l (receiveRule (stateOf l) (recordOf l) (l .memory) (unpackFrame frame) bytes time))
+    (let o = receiveRule (stateOf l) (recordOf l) (l .memory) (unpackFrame frame) bytes time in
+    outcome (resultOf (o .says)) (lent (packState (o .state)) (packRecord (o .status)) (o .memory) (toldIn fateWords (l .answer) (o .says)) (l .output)))
 
 -- call 3
 unfoldable pub readFifoCall : Lent → ℕ → ℕ → Outcome

@@ -1,7 +1,7 @@
 // Call 2 on words.
 use crossing::entering::enter_frame;
-use crossing::entering::put_both;
 use packing::frames::take_frame;
+use packing::states::put_both;
 use packing::states::take_record;
 use packing::states::take_state;
 use receiving::receive;
@@ -12,8 +12,8 @@ ghost use mathlib.Core.List.{[]};
 ghost use lib.ListN.{length};
 ghost use Rattle.receiving.specs.Receive.{receiveOutcome, receiveRule};
 ghost use Rattle.packing.specs.Frames.{unpackFrame};
-ghost use Rattle.packing.specs.States.{unpackState, unpackRecord};
-ghost use Rattle.crossing.specs.Crossing.{outcome, lent, Unpackable};
+ghost use Rattle.packing.specs.States.{unpackState, unpackRecord, Unpackable};
+ghost use Rattle.crossing.specs.Crossing.{outcome, lent};
 ghost use Rattle.crossing_receiving.specs.ReceivingCalls.{receiveCall};
 
 // Of the state, record and frame that stand in these words.

@@ -5,8 +5,7 @@ use mathlib.Core.Path.{_≡_, refl, ap, _∙_}
 use mathlib.Core.Bool.{true, _&&_}
 use mathlib.Core.List.{List}
 use lib.ListN.{length}
-use Rattle.element.specs.declared.EventHeader.{EventHeader}
-use Rattle.engine.specs.Answers.{Says, replied}
+use Rattle.engine.specs.Answers.{replied}
 use Rattle.engine.specs.declared.state.State.{State}
 use Rattle.engine.specs.declared.state.Record.{Record}
 use Rattle.sending.specs.Requesting.{RequestOutcome, requestOutcome, dedicatedRule, sharedRule, meaning as requestSays}
@@ -17,11 +16,12 @@ use Rattle.sending.specs.declared.cancelling.AfterCancel.{AfterCancel}
 use Rattle.sending.specs.declared.events.EventAnswer.{EventAnswer}
 use Rattle.sending.specs.declared.events.AfterAcknowledge.{AfterAcknowledge}
 use Rattle.packing.specs.Frames.{plainFrame, unpackFrame}
-use Rattle.packing.specs.States.{saysYes, isYesNo, unpackState, unpackRecord, packState, packRecord}
+use Rattle.packing.specs.Words.{saysYes, isYesNo}
+use Rattle.packing.specs.States.{unpackState, unpackRecord, packState, packRecord}
 use Rattle.telling.specs.Telling.{resultOf, toldIn, bufferWords, eventWords}
 use Rattle.crossing.specs.Crossing.{lent, outcome, has, entryNumber, crossing}
 use Rattle.crossing.proofs.Entries.{alike, crossed}
-use Rattle.crossing_sending.specs.SendingCalls.{requested, cancelled, eventRead, acknowledged, requestDedicatedCall, requestSharedCall, cancelCall, readEventCall, acknowledgeEventCall}
+use Rattle.crossing_sending.specs.SendingCalls.{requested, requestDedicatedCall, requestSharedCall, cancelCall, readEventCall, acknowledgeEventCall}
 
 module _ (state status mem answer out : List ℕ) (n : ℕ) (f : n ≡ 0) where
   -- calls 7 and 8
@@ -50,7 +50,7 @@ module _ (state status mem answer out : List ℕ) (n : ℕ) (f : n ≡ 0) where
     pub cancel-left : (buffer : ℕ) (a : AfterCancel) (k : ℕ) (st re : List ℕ) → n ≡ entryNumber state status true true → cancelOutcome a ≡ cancelRule s r (length mem) buffer
         → st ≡ packState (a .state) → re ≡ packRecord (a .status) → k ≡ resultOf (replied (a .reply))
         → outcome k (lent st re mem answer out) ≡ cancelCall (lent state status mem answer out) buffer
-    unfolding cancelCall cancelled
+    unfolding cancelCall
     cancel-left buffer a k st re d h b c w =
         let same : cancelOutcome a ≡ cancelRule (unpackState state) (unpackRecord status) (length mem) buffer = cc in
         alike (w ∙ ap (λ (o : CancelOutcome). resultOf (o .says)) same) (b ∙ ap (λ (o : CancelOutcome). packState (o .state)) same) (c ∙ ap (λ (o : CancelOutcome). packRecord (o .status)) same) refl refl refl
@@ -60,7 +60,7 @@ module _ (state status mem answer out : List ℕ) (n : ℕ) (f : n ≡ 0) where
     pub event-told : (place : ℕ) (a : EventAnswer) (k : ℕ) (m : List ℕ) → n ≡ entryNumber state status (has answer 16) true → eventSays a ≡ readEventRule s r mem place
         → k ≡ resultOf (eventSays a) → m ≡ toldIn eventWords answer (eventSays a)
         → outcome k (lent state status mem m out) ≡ readEventCall (lent state status mem answer out) place
-    unfolding readEventCall eventRead
+    unfolding readEventCall
     event-told place a k m d h w z =
         let same : eventSays a ≡ readEventRule (unpackState state) (unpackRecord status) mem place = cc in
         alike (w ∙ ap resultOf same) refl refl refl (z ∙ ap (toldIn eventWords answer) same) refl
@@ -69,7 +69,7 @@ module _ (state status mem answer out : List ℕ) (n : ℕ) (f : n ≡ 0) where
     pub event-acknowledged : (place : ℕ) (a : AfterAcknowledge) (k : ℕ) (st : List ℕ) → n ≡ entryNumber state status true true → acknowledgeOutcome a ≡ acknowledgeEventRule s r (length mem) place
         → st ≡ packState (a .state) → k ≡ resultOf (replied (a .reply))
         → outcome k (lent st status mem answer out) ≡ acknowledgeEventCall (lent state status mem answer out) place
-    unfolding acknowledgeEventCall acknowledged
+    unfolding acknowledgeEventCall
     event-acknowledged place a k st d h b w =
         let same : acknowledgeOutcome a ≡ acknowledgeEventRule (unpackState state) (unpackRecord status) (length mem) place = cc in
         alike (w ∙ ap (λ (o : AcknowledgeOutcome). resultOf (o .says)) same) (b ∙ ap (λ (o : AcknowledgeOutcome). packState (o .state)) same) refl refl refl refl

@@ -3,28 +3,18 @@ use Prim.Native.Nat.{ℕ}
 use mathlib.Core.Bool.{true, _&&_}
 use mathlib.Core.List.{List}
 use lib.ListN.{length}
-use Rattle.element.specs.declared.EventHeader.{EventHeader}
-use Rattle.engine.specs.Answers.{Says}
 use Rattle.sending.specs.Requesting.{RequestOutcome, dedicatedRule, sharedRule}
-use Rattle.sending.specs.Cancelling.{CancelOutcome, cancelRule}
-use Rattle.sending.specs.Events.{AcknowledgeOutcome, readEventRule, acknowledgeEventRule}
+use Rattle.sending.specs.Cancelling.{cancelRule}
+use Rattle.sending.specs.Events.{readEventRule, acknowledgeEventRule}
 use Rattle.packing.specs.Frames.{plainFrame, unpackFrame}
-use Rattle.packing.specs.States.{saysYes, isYesNo, packState, packRecord}
+use Rattle.packing.specs.Words.{saysYes, isYesNo}
+use Rattle.packing.specs.States.{packState, packRecord}
 use Rattle.telling.specs.Telling.{resultOf, toldIn, bufferWords, eventWords}
 use Rattle.crossing.specs.Crossing.{Lent, lent, Outcome, outcome, has, stateOf, recordOf, crossing}
 
--- what a request, a cancel, and a read and an acknowledge of an event leave, in words
+-- what a request leaves, in words
 unfoldable pub requested : Lent → RequestOutcome → Outcome
 requested l o = outcome (resultOf (o .says)) (lent (packState (o .state)) (l .status) (o .memory) (toldIn bufferWords (l .answer) (o .says)) (l .output))
-
-unfoldable pub cancelled : Lent → CancelOutcome → Outcome
-cancelled l o = outcome (resultOf (o .says)) (lent (packState (o .state)) (packRecord (o .status)) (l .memory) (l .answer) (l .output))
-
-unfoldable pub eventRead : Lent → Says EventHeader → Outcome
-eventRead l says = outcome (resultOf says) (lent (l .state) (l .status) (l .memory) (toldIn eventWords (l .answer) says) (l .output))
-
-unfoldable pub acknowledged : Lent → AcknowledgeOutcome → Outcome
-acknowledged l o = outcome (resultOf (o .says)) (lent (packState (o .state)) (l .status) (l .memory) (l .answer) (l .output))
 
 -- call 7
 unfoldable pub requestDedicatedCall : Lent → ℕ → List ℕ → List ℕ → ℕ → ℕ → Outcome
@@ -40,12 +30,21 @@ requestSharedCall l frame bytes marker wish =
 
 -- call 9
 unfoldable pub cancelCall : Lent → ℕ → Outcome
-cancelCall l buffer = crossing l true true (cancelled l (cancelRule (stateOf l) (recordOf l) (length (l .memory)) buffer))
+cancelCall l buffer =
+    crossing l true true
+    (let o = cancelRule (stateOf l) (recordOf l) (length (l .memory)) buffer in
+    outcome (resultOf (o .says)) (lent (packState (o .state)) (packRecord (o .status)) (l .memory) (l .answer) (l .output)))
 
 -- call 12
 unfoldable pub readEventCall : Lent → ℕ → Outcome
-readEventCall l place = crossing l (has (l .answer) 16) true (eventRead l (readEventRule (stateOf l) (recordOf l) (l .memory) place))
+readEventCall l place =
+    crossing l (has (l .answer) 16) true
+    (let says = readEventRule (stateOf l) (recordOf l) (l .memory) place in
+    outcome (resultOf says) (lent (l .state) (l .status) (l .memory) (toldIn eventWords (l .answer) says) (l .output)))
 
 -- call 13
 unfoldable pub acknowledgeEventCall : Lent → ℕ → Outcome
-acknowledgeEventCall l place = crossing l true true (acknowledged l (acknowledgeEventRule (stateOf l) (recordOf l) (length (l .memory)) place))
+acknowledgeEventCall l place =
+    crossing l true true
+    (let o = acknowledgeEventRule (stateOf l) (recordOf l) (length (l .memory)) place in
+    outcome (resultOf (o .says)) (lent (packState (o .state)) (l .status) (l .memory) (l .answer) (l .output)))

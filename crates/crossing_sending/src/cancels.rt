@@ -1,6 +1,6 @@
 // Call 9 on words.
 use crossing::entering::enter;
-use crossing::entering::put_both;
+use packing::states::put_both;
 use packing::states::take_record;
 use packing::states::take_state;
 use sending::cancelling;

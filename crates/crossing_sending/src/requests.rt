@@ -12,8 +12,8 @@ ghost use mathlib.Core.List.{[]};
 ghost use lib.ListN.{length};
 ghost use Rattle.sending.specs.Requesting.{requestOutcome, dedicatedRule, sharedRule};
 ghost use Rattle.packing.specs.Frames.{unpackFrame};
-ghost use Rattle.packing.specs.States.{unpackState, unpackRecord};
-ghost use Rattle.crossing.specs.Crossing.{outcome, lent, Unpackable};
+ghost use Rattle.packing.specs.States.{unpackState, unpackRecord, Unpackable};
+ghost use Rattle.crossing.specs.Crossing.{outcome, lent};
 ghost use Rattle.crossing_sending.specs.SendingCalls.{requestDedicatedCall, requestSharedCall};
 
 // Of the state, record and frame that stand in these words.

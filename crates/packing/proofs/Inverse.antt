@@ -11,7 +11,8 @@ use Rattle.words.specs.Runs.{run}
 use Rattle.words.proofs.Choices.{and-both}
 use Rattle.frame.specs.declared.Frame.{Frame}
 use Rattle.engine.specs.declared.state.State.{State}
-use Rattle.packing.specs.States.{word, yesNo, saysYes, isYesNo, plainRegisters, packState, unpackState, packRecord, unpackRecord}
+use Rattle.packing.specs.Words.{word, yesNo, saysYes, isYesNo}
+use Rattle.packing.specs.States.{plainRegisters, packState, unpackState, packRecord, unpackRecord}
 use Rattle.packing.specs.Frames.{plainFrame, packFrame, unpackFrame}
 use Rattle.packing.specs.Promises.{ValuesComeBack, WordsComeBack, RegistersComeFirst}
 use Rattle.packing.proofs.Spelled.{spelled}

@@ -8,8 +8,8 @@ use native.Mathlib.Omega.{arith}
 use lib.ListN.{length, set, drop-of-length-le}
 use lib.Seq.{ext-getD}
 use Rattle.words.specs.Runs.{run, splice}
-use Rattle.packing.specs.States.{word}
 use Rattle.words.proofs.Runs.{length-run, getD-run, run-none, run-turn, run-done}
+use Rattle.packing.specs.Words.{word}
 
 pub spelled : (ws : List ℕ) → run (word ws) 0 (length ws) ≡ ws
 spelled ws =

@@ -3,7 +3,7 @@ use Prim.Native.Nat.{ℕ}
 use mathlib.Core.Bool.{Bool, _&&_}
 use mathlib.Core.List.{List, [], _∷_}
 use Rattle.frame.specs.declared.Frame.{Frame}
-use Rattle.packing.specs.States.{word, yesNo, saysYes, isYesNo}
+use Rattle.packing.specs.Words.{word, yesNo, saysYes, isYesNo}
 
 -- 7 words: identifier, 29-bit, remote, FDF, BRS, ESI, DLC
 abbrev pub unpackFrame : List ℕ → Frame

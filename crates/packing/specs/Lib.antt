@@ -1,3 +1,4 @@
+pub mod Words
 pub mod States
 pub mod Frames
 pub mod Promises

@@ -7,7 +7,8 @@ use lib.ListN.{length}
 use Rattle.frame.specs.declared.Frame.{Frame}
 use Rattle.engine.specs.declared.state.State.{State}
 use Rattle.engine.specs.declared.state.Record.{Record}
-use Rattle.packing.specs.States.{word, plainRegisters, unpackRegisters, unpackState, packState, unpackRecord, packRecord}
+use Rattle.packing.specs.Words.{word}
+use Rattle.packing.specs.States.{plainRegisters, unpackRegisters, unpackState, packState, unpackRecord, packRecord}
 use Rattle.packing.specs.Frames.{plainFrame, unpackFrame, packFrame}
 
 -- every state, record and frame comes back from its words

@@ -1,29 +1,14 @@
 -- A state, its registers and a record as words, and back.
 use Prim.Native.Nat.{ℕ, _+_, _*_, _/_, _%_, _^_}
+use mathlib.Core.Path.{_≡_}
 use mathlib.Core.Bool.{Bool, _&&_}
 use mathlib.Core.List.{List, [], _∷_}
-use lib.Dec.{eqb, ltb}
-use lib.ListN.{getD}
-use Rattle.words.specs.Choice.{pick}
+use lib.ListN.{length}
 use Rattle.ring.specs.declared.Ring.{Ring}
 use Rattle.registers.specs.declared.Registers.{Registers}
 use Rattle.engine.specs.declared.state.State.{State}
 use Rattle.engine.specs.declared.state.Record.{Record}
-
--- word n of some words, 0 past their end
-abbrev pub word : List ℕ → ℕ → ℕ
-word ws n = getD ws n 0
-
--- yes and no as a word, and back: 1 is yes
-abbrev pub yesNo : Bool → ℕ
-yesNo b = pick b 1 0
-
-abbrev pub saysYes : ℕ → Bool
-saysYes w = eqb w 1
-
--- a word that says yes or no
-abbrev pub isYesNo : ℕ → Bool
-isYesNo w = ltb w 2
+use Rattle.packing.specs.Words.{word, yesNo, saysYes, isYesNo}
 
 -- the registers are words 0 to 13
 abbrev pub unpackRegisters : List ℕ → Registers
@@ -103,3 +88,8 @@ unpackRecord ws = record { flags = word ws 0; priority = word ws 1 }
 
 abbrev pub packRecord : Record → List ℕ
 packRecord r = r .flags ∷ r .priority ∷ []
+
+-- a state and a record can be taken from these words, and put there
+pub record Unpackable (state status : List ℕ) : Type 0 where
+  pub states : length state ≡ 27
+  pub records : length status ≡ 2

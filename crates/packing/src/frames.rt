@@ -1,5 +1,5 @@
 // A frame as words, and back.
-use crate::states::word_at;
+use crate::buffers::word_at;
 use frame::Frame;
 use frame::bit_of;
 ghost use mathlib.Core.Path.{_≡_};

@@ -1,5 +1,6 @@
 // A state, its registers and a record as words, and back.
-use crate::writing::put;
+use crate::buffers::put;
+use crate::buffers::word_at;
 use engine::state::Record;
 use engine::state::State;
 use frame::bit_of;
@@ -18,20 +19,13 @@ use ring::Ring;
 ghost use mathlib.Core.Path.{_≡_};
 ghost use Prim.Native.Nat.{_+_, _*_, _^_, _≤_, _<_};
 ghost use lib.ListN.{length};
-ghost use Rattle.packing.specs.States.{word, plainRegisters, unpackRegisters, unpackRing, unpackState, packState, unpackRecord, packRecord};
+ghost use Rattle.packing.specs.States.{plainRegisters, unpackRegisters, unpackRing, unpackState, packState, unpackRecord, packRecord, Unpackable};
 
 pub const STATE_WORDS: usize = 27;
 
 pub const RECORD_WORDS: usize = 2;
 
 pub const REGISTER_WORDS: usize = 14;
-
-// Word n, 0 past the end.
-pub fn word_at(words: &[u32], n: usize) -> u32
-    ensures { λ w. ⌜ w ≡ word (now (words .entry)) n ⌝ }
-{
-    if n < words.len() { words[n] } else { 0 }
-}
 
 // The two words that say yes or no are 0 or 1.
 pub fn is_plain(words: &[u32]) -> bool
@@ -162,4 +156,13 @@ pub fn put_record(words: &mut [u32], r: Record)
     ensures { λ _. ⌜ now (words .exit) ≡ packRecord r ⌝ }
 {
     put(words, 0, &[r.flags, r.priority])
+}
+
+// The state and its record at once.
+pub fn put_both(state: &mut [u32], status: &mut [u32], s: State, r: Record)
+    requires { ⌜ Unpackable (now state) (now status) ⌝ }
+    ensures { λ _. ⌜ (now (state .exit) ≡ packState s) × (now (status .exit) ≡ packRecord r) ⌝ }
+{
+    put_state(state, s);
+    put_record(status, r)
 }

@@ -16,7 +16,7 @@ use Rattle.element.specs.declared.EventHeader.{EventHeader}
 use Rattle.layout.specs.Sections.{none}
 use Rattle.layout.specs.declared.sections.Section.{Section}
 use Rattle.choosing.specs.declared.asking.Chosen.{Chosen}
-use Rattle.packing.specs.States.{yesNo}
+use Rattle.packing.specs.Words.{yesNo}
 use Rattle.packing.specs.Frames.{packFrame}
 use Rattle.telling.specs.Telling.{readWords, chosenWords, eventWords, sectionWords, startWords}
 

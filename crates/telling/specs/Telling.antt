@@ -19,7 +19,7 @@ use Rattle.engine.specs.declared.overview.RingStatus.{RingStatus}
 use Rattle.receiving.specs.Receive.{Fate, stored, storedBuffer, lostTo, dropped}
 use Rattle.choosing.specs.Choosing.{Next, none, send}
 use Rattle.choosing.specs.declared.asking.Chosen.{Chosen}
-use Rattle.packing.specs.States.{yesNo}
+use Rattle.packing.specs.Words.{yesNo}
 use Rattle.packing.specs.Frames.{packFrame}
 
 -- 0 where the call is accepted, else the refusal's number

@@ -11,8 +11,8 @@ use engine::overview::StatusAnswer;
 use frame::bit_of;
 use layout::check::Verdict;
 use layout::sections::Section;
+use packing::buffers::put;
 use packing::frames::pack_frame;
-use packing::writing::put;
 use receiving::receive::Received;
 use sending::events::EventAnswer;
 use sending::requesting::Requested;
@@ -31,7 +31,7 @@ ghost use Rattle.words.specs.Rules.{allowed};
 ghost use Rattle.choosing.specs.Choosing.{meaning as choiceSays};
 ghost use Rattle.sending.specs.Requesting.{meaning as requestSays};
 ghost use Rattle.sending.specs.Events.{meaning as eventSays};
-ghost use Rattle.telling.specs.Telling.{resultOf, toldIn, fateWords, readWords, bufferWords, chosenWords, choiceWords, eventWords, overviewWords, startResult, namedWords, sectionWords, startWords, FateFits, ReadFits, NamesFit, CanTell};
+ghost use Rattle.telling.specs.Telling.{resultOf, toldIn, fateWords, readWords, bufferWords, chosenWords, choiceWords, eventWords, overviewWords, startResult, sectionWords, startWords, FateFits, ReadFits, NamesFit, CanTell};
 
 pub const ANSWER_WORDS: usize = 16;
 
@@ -60,6 +60,13 @@ pub fn tell_received(answer: &mut [u32], a: Received) -> u32
     }
 }
 
+// A number, or 0 where something is so.
+fn unless(so: bool, number: u32) -> u32
+    ensures { λ n. ⌜ n ≡ pick so 0 number ⌝ }
+{
+    if so { 0 } else { number }
+}
+
 // The frame, timestamp, filter element and number of bytes.
 fn tell_rx(answer: &mut [u32], r: RxRead) -> u32
     requires { ⌜ CanTell (now answer) (r .header .index < 128) ⌝ }
@@ -70,13 +77,6 @@ fn tell_rx(answer: &mut [u32], r: RxRead) -> u32
     put(answer, 0, &packed);
     put(answer, 7, &[h.time, unless(h.anmf, h.index + 1), r.count]);
     0
-}
-
-// A number, or 0 where something is so.
-fn unless(so: bool, number: u32) -> u32
-    ensures { λ n. ⌜ n ≡ pick so 0 number ⌝ }
-{
-    if so { 0 } else { number }
 }
 
 // Of a read in a FIFO or of an Rx buffer.
@@ -90,6 +90,15 @@ pub fn tell_read(answer: &mut [u32], a: ReadAnswer) -> u32
     }
 }
 
+// One word.
+fn tell_one(answer: &mut [u32], word: u32) -> u32
+    requires { ⌜ length (now answer) ≡ 16 ⌝ }
+    ensures { λ n. ⌜ (n ≡ 0) × (now (answer .exit) ≡ splice (now (answer .entry)) 0 (word ∷ [])) ⌝ }
+{
+    put(answer, 0, &[word]);
+    0
+}
+
 // Of a request.
 pub fn tell_requested(answer: &mut [u32], a: Requested) -> u32
     requires { ⌜ length (now answer) ≡ 16 ⌝ }
@@ -99,15 +108,6 @@ pub fn tell_requested(answer: &mut [u32], a: Requested) -> u32
         Requested::Buffer(buffer) => tell_one(answer, buffer),
         Requested::Refused(n) => refusal_number(n),
     }
-}
-
-// One word.
-fn tell_one(answer: &mut [u32], word: u32) -> u32
-    requires { ⌜ length (now answer) ≡ 16 ⌝ }
-    ensures { λ n. ⌜ (n ≡ 0) × (now (answer .exit) ≡ splice (now (answer .entry)) 0 (word ∷ [])) ⌝ }
-{
-    put(answer, 0, &[word]);
-    0
 }
 
 // The frame to send next.

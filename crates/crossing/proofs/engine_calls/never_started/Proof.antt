@@ -1,4 +1,3 @@
-use Rattle.crossing.specs.EngineCalls.{neverStartedCall}
 use Rattle.crossing.proofs.EngineCalls.{never-written, no-state}
 use borrow.Author.Needs.{needs}
 use Rattle.crossing.proofs.engine_calls.never_started.Statement.{statement}

@@ -2,8 +2,8 @@ use denote.Ref.{now}
 use lib.ListN.{List·getD-eq-default}
 use mathlib.Core.Path.{sym}
 use borrow.Author.Needs.{needs}
-use Rattle.packing.proofs.states.word_at.Statement.{statement}
-use Rattle.packing.proofs.states.word_at.Tie as tie
+use Rattle.packing.proofs.buffers.word_at.Statement.{statement}
+use Rattle.packing.proofs.buffers.word_at.Tie as tie
 
 mul-result : tie.Need-mul-result
 mul-result c = search needs

@@ -3,11 +3,11 @@ use denote.Ref.{now}
 use mathlib.Core.Path.{_≡_, refl}
 use lib.ListN.{length, length-set}
 use Rattle.words.specs.Runs.{run, splice}
-use Rattle.packing.specs.States.{word}
+use Rattle.packing.specs.Words.{word}
 use Rattle.packing.proofs.Spelled.{put-none, put-turn, put-done}
 use borrow.Author.Needs.{needs}
-use Rattle.packing.proofs.writing.put.Statement.{statement}
-use Rattle.packing.proofs.writing.put.Tie as tie
+use Rattle.packing.proofs.buffers.put.Statement.{statement}
+use Rattle.packing.proofs.buffers.put.Tie as tie
 
 abbrev Inv-loop : tie.InvT-loop
 Inv-loop words₀ at from k₀ words k = (k ≤ length from) × (words ≡ splice words₀ at (run (word from) 0 k)) × (length words ≡ length words₀)
