@@ -16,7 +16,7 @@ use Rattle.engine.specs.Fitness.{unfit}
 use Rattle.engine.specs.declared.state.State.{State}
 use Rattle.engine.specs.declared.state.Record.{Record}
 use Rattle.engine.proofs.Sounds.{sound-of}
-use Rattle.receiving.proofs.Outcomes.{settled}
+use Rattle.words.proofs.Rulings.{settled}
 use Rattle.choosing.specs.Choosing.{ChoiceOutcome, send, isCandidate, rankAt, choice, chosen, choiceRule}
 use Rattle.choosing.specs.declared.asking.Chosen.{Chosen}
 use Rattle.crossing_choosing.specs.Promises.{NothingIsNoBuffer}
