@@ -9,3 +9,4 @@ pub mod Unnamed
 pub mod Runs
 pub mod Parts
 pub mod Lanes
+pub mod Ranges

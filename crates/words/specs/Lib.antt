@@ -6,3 +6,4 @@ pub mod Fields
 pub mod Bits
 pub mod Runs
 pub mod Bytes
+pub mod Ranges
