@@ -1,3 +1,4 @@
+-- Each kind tests its own word, so the conjunction is that of the definition.
 use borrow.Author.Needs.{needs}
 use Rattle.registers.proofs.Registers.only_named.Statement.{statement}
 use Rattle.registers.proofs.Registers.only_named.Tie as tie

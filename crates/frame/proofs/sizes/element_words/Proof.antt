@@ -1,8 +1,8 @@
 use mathlib.Core.Path.{refl}
-use Rattle.registers.proofs.SizeLaws.{words-least, words-most}
+use Rattle.frame.proofs.SizeLaws.{words-least, words-most}
 use borrow.Author.Needs.{needs}
-use Rattle.registers.proofs.sizes.element_words.Statement.{statement}
-use Rattle.registers.proofs.sizes.element_words.Tie as tie
+use Rattle.frame.proofs.sizes.element_words.Statement.{statement}
+use Rattle.frame.proofs.sizes.element_words.Tie as tie
 
 returns : tie.Need-returns
 returns c = (refl, words-least (c .args .code) (search needs), words-most (c .args .code) (search needs))
