@@ -13,7 +13,7 @@ check-spec =
     (λ c. search (says-11, not-true, needs))
     (λ c κs. search needs) (λ c κs. search needs)
     (λ c. search (says-12, not-false, needs))
-    (λ c κs. search needs) (λ c κs. search needs) (λ c. search needs)
+    (λ c κs. search needs)
     (λ c. search (says-13, not-false, needs))
     (λ c κs. search (few-buffers, needs))
     (λ c κs. search needs)

@@ -5,4 +5,7 @@ use Rattle.layout.proofs.sections.fifo.Tie as tie
 pub fifo-spec : {M : Type 1} → statement M
 fifo-spec =
     tie.close
-    (tie.spec (λ c κs. search needs) (λ c κs. search needs) (λ c κs. search needs) (λ c κs. search needs) (λ c. cc))
+    (tie.spec
+    (λ c κs. search needs) (λ c κs. search needs) (λ c κs. search needs) (λ c κs. search needs) (λ c κs. search needs)
+    (λ c κs. search needs)
+    (λ c. cc))
