@@ -97,9 +97,12 @@ module _ (a : Arrival) (h : InFields (a .frame)) (i : indexOf (a .matched) < 128
   pub rx-header-back : rxHeaderIn (word0 (a .frame)) (rxWord1 a) ≡ arrivalHeader a
   unfolding rxHeaderIn
   rx-header-back =
-      simp
-      (frame-back (a .frame) h rxTop (a .time) (rxWord1 a) t rx-split, anmf-back, index-back,
-       low-back (a .frame) h rxTop (a .time) (rxWord1 a) t rx-split)
+      simp (
+        frame-back (a .frame) h rxTop (a .time) (rxWord1 a) t rx-split,
+        anmf-back,
+        index-back,
+        low-back (a .frame) h rxTop (a .time) (rxWord1 a) t rx-split,
+      )
 
 -- a Tx element: the marker and the wish stand above, nothing below
 module _ (x : TxHeader) (h : InFields (x .frame)) (k : x .marker < 256) where
@@ -146,6 +149,9 @@ module _ (f : Frame) (h : InFields f) (marker time : ℕ) (k : marker < 256) (t 
       ≡ record { frame = f; marker = marker; kind = 1; time = time }
   unfolding eventHeaderIn
   event-header-back =
-      simp
-      (frame-back f h eventTop time (eventWord1 marker f time) t event-split, event-marker-back, kind-back,
-       low-back f h eventTop time (eventWord1 marker f time) t event-split)
+      simp (
+        frame-back f h eventTop time (eventWord1 marker f time) t event-split,
+        event-marker-back,
+        kind-back,
+        low-back f h eventTop time (eventWord1 marker f time) t event-split,
+      )
