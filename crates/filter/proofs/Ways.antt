@@ -12,7 +12,7 @@ use Rattle.words.proofs.Choices.{pick-first, pick-second}
 use Rattle.registers.specs.declared.Registers.{Registers}
 use Rattle.frame.specs.declared.Frame.{Frame}
 use Rattle.frame.specs.declared.Matched.the-variants.{Nothing, Filter}
-use Rattle.filter.specs.Search.{listOf, elementAt, firstMatch}
+use Rattle.filter.specs.Search.{listOf, filterAt, firstMatch}
 use Rattle.filter.specs.Destination.{Goes, toFifo, toBuffer, discarded, remoteOut, nonMatching, unmatched, rxBuffer, byAction, bySearch, destination}
 use Rattle.filter.specs.declared.filters.FilterElement.{FilterElement}
 use Rattle.filter.specs.declared.lists.FilterList.{FilterList}
@@ -115,7 +115,7 @@ module _ (g : Registers) (mem : List ℕ) (f : Frame) (newdata : ℕ) where
         ap₂ (λ (k : FilterList) (j : ℕ). bySearch g mem k newdata j) listed (found ∙ same)
         ∙ sym (pick-second _ _ (ap (λ (b : Bool). f .rtr && b) (sym d) ∙ stays))
 
-    pub goes-by-match : (e : FilterElement) (r : Goes) → i < l .count → e ≡ elementAt mem l i → r ≡ byAction (e .action) (e .id2) (g .buffers) newdata i
+    pub goes-by-match : (e : FilterElement) (r : Goes) → i < l .count → e ≡ filterAt mem l i → r ≡ byAction (e .action) (e .id2) (g .buffers) newdata i
         → r ≡ destination g mem f newdata
     unfolding bySearch
     goes-by-match e r h p q =

@@ -10,7 +10,7 @@ use Rattle.registers.specs.declared.Registers.{Registers}
 use Rattle.frame.specs.declared.Frame.{Frame}
 use Rattle.frame.specs.declared.Matched.{Matched}
 use Rattle.frame.specs.declared.Matched.the-variants.{Nothing, Filter}
-use Rattle.filter.specs.Search.{listOf, elementAt, firstMatch}
+use Rattle.filter.specs.Search.{listOf, filterAt, firstMatch}
 use Rattle.filter.specs.declared.lists.FilterList.{FilterList}
 use Rattle.filter.specs.declared.Reason.{Reason}
 use Rattle.filter.specs.declared.Reason.the-variants.{Remote, Reject, NoMatch, PriorityOnly, Debug, Misfiled, Locked}
@@ -80,7 +80,7 @@ byAction action id2 buffers newdata i =
 unfoldable pub bySearch : Registers → List ℕ → FilterList → ℕ → ℕ → Goes
 bySearch g mem l newdata i =
     pick (ltb i (l .count))
-    (byAction (elementAt mem l i .action) (elementAt mem l i .id2) (g .buffers) newdata i)
+    (byAction (filterAt mem l i .action) (filterAt mem l i .id2) (g .buffers) newdata i)
     (unmatched (nonMatching (g .gfc .word) (l .xtd)))
 
 -- 1 remote frames go out first; 2 the list of the frame's kind is searched; 3 to 5 the first match decides

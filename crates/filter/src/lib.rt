@@ -2,7 +2,7 @@
 pub mod filters;
 pub mod lists;
 
-use crate::lists::element_at;
+use crate::lists::filter_at;
 use crate::lists::first_match;
 use crate::lists::list_of;
 use frame::Frame;
@@ -13,8 +13,9 @@ ghost use mathlib.Core.Path.{_≡_};
 ghost use Prim.Native.Nat.{_<_};
 ghost use lib.ListN.{length};
 ghost use Rattle.words.specs.Fields.{bits};
-ghost use Rattle.filter.specs.Search.{ListsFit};
-ghost use Rattle.filter.specs.Destination.{meaning, remoteOut, nonMatching, unmatched, rxBuffer, byAction, destination};
+ghost use Rattle.filter.specs.Needs.{ListsFit};
+ghost use Rattle.filter.specs.Destination.{reason, meaning, remoteOut, nonMatching, unmatched, rxBuffer, byAction};
+ghost use Rattle.filter.specs.Destination.{destination};
 
 // Why a frame is discarded.
 pub enum Reason {
@@ -25,6 +26,23 @@ pub enum Reason {
     Debug,
     Misfiled,
     Locked,
+}
+
+impl Reason {
+    // The reason's number, in the order in which document 01 lists them.
+    pub fn number(self) -> u32
+        ensures { λ r. ⌜ r ≡ reason self ⌝ }
+    {
+        match self {
+            Reason::Remote => 0,
+            Reason::Reject => 1,
+            Reason::NoMatch => 2,
+            Reason::PriorityOnly => 3,
+            Reason::Debug => 4,
+            Reason::Misfiled => 5,
+            Reason::Locked => 6,
+        }
+    }
 }
 
 // Where a frame goes, with the element that matched it, if one did.
@@ -117,7 +135,7 @@ pub fn destination_of(regs: Registers, mem: &[u32], f: Frame, newdata: u64) -> D
     let list = list_of(regs, f.xtd);
     let i = first_match(mem, list, f.id);
     if i < list.count {
-        let e = element_at(mem, list, i);
+        let e = filter_at(mem, list, i);
         return by_action(e.action, e.id2, regs.buffers, newdata, i);
     }
     unmatched(non_matching(regs.gfc, f.xtd))

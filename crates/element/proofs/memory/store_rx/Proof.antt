@@ -8,8 +8,5 @@ pub store-rx-spec : {M : Type 1} → statement M
 store-rx-spec =
     tie.close
     (tie.spec
-    (λ c κs. search needs)
-    (λ c κs. search needs)
-    (λ c κs. search needs)
-    (λ c. search needs)
+    (λ c κs. search needs) (λ c κs. search needs) (λ c κs. search needs) (λ c. search needs)
     (λ c. search (element-by, needs)))

@@ -5,9 +5,4 @@ use Rattle.element.proofs.pack.id_bits.Statement.{statement}
 use Rattle.element.proofs.pack.id_bits.Tie as tie
 
 pub id-bits-spec : {M : Type 1} → statement M
-id-bits-spec =
-    tie.close
-    (tie.spec
-    (λ c. search (ids, needs))
-    (λ c. search (ids, needs))
-    (λ c. search (ids, needs)))
+id-bits-spec = tie.close (tie.spec (λ c. search (ids, needs)) (λ c. search (ids, needs)) (λ c. search (ids, needs)))

@@ -8,8 +8,7 @@ pub match-bits-spec : {M : Type 1} → statement M
 match-bits-spec =
     tie.close
     (tie.spec
-    (λ c. search needs)
-    (λ c. search needs)
+    (λ c. search needs) (λ c. search needs)
     (λ c. search (matches, needs))
     (λ c. search (matches, needs))
     (λ c. search (matches, needs)))

@@ -5,5 +5,4 @@ use Rattle.element.proofs.unpack.tx_header.Statement.{statement}
 use Rattle.element.proofs.unpack.tx_header.Tie as tie
 
 pub tx-header-spec : {M : Type 1} → statement M
-tx-header-spec =
-    tie.close (tie.spec (λ c κs. search needs) (λ c κs. search needs) (λ c. search (tx-in, needs)))
+tx-header-spec = tie.close (tie.spec (λ c κs. search needs) (λ c κs. search needs) (λ c. search (tx-in, needs)))
