@@ -5,7 +5,7 @@ use mathlib.Core.Path.{_≡_}
 use mathlib.Core.List.{[], _∷_}
 use lib.Dec.{leb, eqb, leb→le, eqb→eq}
 use Rattle.words.proofs.Tables.{every, every-at}
-use Rattle.registers.specs.Sizes.{elementBytes, elementWords}
+use Rattle.frame.specs.Sizes.{elementBytes, elementWords}
 
 pub words-least : (code : ℕ) → code < 8 → 4 ≤ elementWords code
 unfolding every

@@ -1,7 +1,7 @@
 // The sizes of elements, by their code.
 ghost use mathlib.Core.Path.{_≡_};
 ghost use Prim.Native.Nat.{_≤_, _<_};
-ghost use Rattle.registers.specs.Sizes.{elementWords};
+ghost use Rattle.frame.specs.Sizes.{elementWords};
 
 const WORDS: [u32; 8] = [4, 5, 6, 7, 8, 10, 14, 18];
 
