@@ -56,13 +56,13 @@ module _ (g : Registers) (mem : List ℕ) (f : Frame) (newdata : ℕ) where
   list = listOf g (f .xtd)
 
   abbrev out : Bool
-  out = remoteOut (g .gfc .word) (f .xtd)
+  out = remoteOut g (f .xtd)
 
   module _ (stays : (f .rtr && out) ≡ false) where
-    pub destination-unmatched : NoneMatches mem list (f .id) → unmatched (nonMatching (g .gfc .word) (f .xtd)) ≡ destination g mem f newdata
+    pub destination-unmatched : NoneMatches mem list (f .id) → unmatched (nonMatching g (f .xtd)) ≡ destination g mem f newdata
     destination-unmatched none =
         let past : list .count ≤ firstMatch mem list (f .id) = omega (arith, none-searched mem list (f .id) none) in
-        let anf = nonMatching (g .gfc .word) (f .xtd) in
+        let anf = nonMatching g (f .xtd) in
         goes-unmatched g mem f newdata out refl stays list refl (firstMatch mem list (f .id)) refl anf (unmatched anf) past refl refl
 
     pub destination-matched : (i : ℕ) → FirstIs mem list (f .id) i
@@ -75,6 +75,6 @@ module _ (g : Registers) (mem : List ℕ) (f : Frame) (newdata : ℕ) where
 pub destination-is-by-action : DestinationIsByAction
 destination-is-by-action g mem f newdata = record {
   remote = λ h. sym (goes-out g mem f newdata (out g mem f newdata) refl h);
-  unmatched = λ stays none. unmatched-tells (nonMatching (g .gfc .word) (f .xtd)) (destination g mem f newdata) (destination-unmatched g mem f newdata stays none);
+  unmatched = λ stays none. unmatched-tells (nonMatching g (f .xtd)) (destination g mem f newdata) (destination-unmatched g mem f newdata stays none);
   matched = λ stays i s. action-tells g newdata (filterAt mem (listOf g (f .xtd)) i) i (destination g mem f newdata) (destination-matched g mem f newdata stays i s);
 }

@@ -77,10 +77,10 @@ unfolding destination bySearch
 destination-is-within g mem f newdata few =
     let l = listOf g (f .xtd) in
     let i = firstMatch mem l (f .id) in
-    chosen g newdata (f .rtr && remoteOut (g .gfc .word) (f .xtd)) (discarded 0 Nothing) _ (λ e. (omega arith, no-index))
-    (λ e. chosen g newdata (ltb i (l .count)) (byAction (filterAt mem l i .action) (filterAt mem l i .id2) (g .buffers) newdata i) (unmatched (nonMatching (g .gfc .word) (f .xtd)))
+    chosen g newdata (f .rtr && remoteOut g (f .xtd)) (discarded 0 Nothing) _ (λ e. (omega arith, no-index))
+    (λ e. chosen g newdata (ltb i (l .count)) (byAction (filterAt mem l i .action) (filterAt mem l i .id2) (g .buffers) newdata i) (unmatched (nonMatching g (f .xtd)))
     (λ found. action-within g newdata i (omega (arith, ltb-true i (l .count) found, list-most g (f .xtd) few)) (filterAt mem l i .action) (filterAt mem l i .id2))
-    (λ none. unmatched-within g newdata (nonMatching (g .gfc .word) (f .xtd))))
+    (λ none. unmatched-within g newdata (nonMatching g (f .xtd))))
 
 -- ---- of an answer of the code, by its case
 

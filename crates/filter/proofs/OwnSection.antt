@@ -61,7 +61,7 @@ module _ (l : FilterList) (m n : List ℕ) (same : SameIn (listRange l) m n) whe
       acted e = byAction (e .action) (e .id2) (g .buffers) newdata i
 
       rest : Goes
-      rest = unmatched (nonMatching (g .gfc .word) (l .xtd))
+      rest = unmatched (nonMatching g (l .xtd))
 
       go : (b : Bool) → ltb i (l .count) ≡ b → pick (ltb i (l .count)) (acted (filterAt m l i)) rest ≡ pick (ltb i (l .count)) (acted (filterAt n l i)) rest
       go true e = ap (λ (x : FilterElement). pick (ltb i (l .count)) (acted x) rest) (element-same i (ltb-true i (l .count) e))
@@ -74,5 +74,5 @@ pub destination-reads-its-list : DestinationReadsItsList
 unfolding destination
 destination-reads-its-list g m n f newdata same =
     let l = listOf g (f .xtd) in
-    ap (pick (f .rtr && remoteOut (g .gfc .word) (f .xtd)) _)
+    ap (pick (f .rtr && remoteOut g (f .xtd)) _)
     (answer-same l m n same g newdata (firstMatch m l (f .id)) ∙ ap (bySearch g n l newdata) (search-same l m n same (f .id)))

@@ -6,11 +6,11 @@ use mathlib.Core.Bool.{Bool, true, false}
 use mathlib.Core.List.{List}
 use native.Mathlib.Omega.{arith}
 use lib.ListN.{getD}
-use Rattle.words.specs.Fields.{bits}
 use Rattle.words.specs.Least.{leastFrom}
+use Rattle.words.specs.declared.WordAddress.{WordAddress}
 use Rattle.words.proofs.Lowest.{look-found, look-on, look-done}
+use Rattle.registers.specs.Fields.{filters11, filters11Start, filters29, filters29Start, xidamMask}
 use Rattle.registers.specs.declared.Registers.{Registers}
-use Rattle.registers.specs.declared.WordAddress.{WordAddress}
 use Rattle.filter.specs.Elements.{element11, element29}
 use Rattle.filter.specs.Matching.{matches}
 use Rattle.filter.specs.Search.{listOf, filterAt, matchesAt, firstMatch}
@@ -29,11 +29,11 @@ same-list xtd p q r = cc (address p)
     address : {s t : WordAddress} → s .0 ≡ t .0 → s ≡ t
     address p = ap (λ (a : ℕ). record { 0 = a }) p
 
-module _ (g : Registers) (xtd : Bool) (s : WordAddress) (n m : ℕ) (masked : m ≡ bits 28 0 (g .xidam .word)) where
-  pub list-long : s .0 ≡ bits 15 2 (g .xidfc .word) → n ≡ bits 22 16 (g .xidfc .word) → xtd ≡ true → made xtd s n m ≡ listOf g xtd
+module _ (g : Registers) (xtd : Bool) (s : WordAddress) (n m : ℕ) (masked : m ≡ xidamMask g) where
+  pub list-long : s .0 ≡ filters29Start g → n ≡ filters29 g → xtd ≡ true → made xtd s n m ≡ listOf g xtd
   list-long p q h = same-list xtd (rw h p) (rw h q) masked
 
-  pub list-short : s .0 ≡ bits 15 2 (g .sidfc .word) → n ≡ bits 23 16 (g .sidfc .word) → xtd ≡ false → made xtd s n m ≡ listOf g xtd
+  pub list-short : s .0 ≡ filters11Start g → n ≡ filters11 g → xtd ≡ false → made xtd s n m ≡ listOf g xtd
   list-short p q h = same-list xtd (rw h p) (rw h q) masked
 
 pub ruleset listings = (list-long, list-short)
@@ -43,8 +43,8 @@ list-fits g words xtd l fit listed = subst⁻¹ (λ (k : FilterList). Fits k wor
 
 -- both lists lie in the memory where each does
 pub lists-fit : (g : Registers) (words : ℕ)
-    → bits 23 16 (g .sidfc .word) ≤ words - bits 15 2 (g .sidfc .word) → bits 23 16 (g .sidfc .word) ≤ 128
-    → 2 * bits 22 16 (g .xidfc .word) ≤ words - bits 15 2 (g .xidfc .word) → bits 22 16 (g .xidfc .word) ≤ 64
+    → filters11 g ≤ words - filters11Start g → filters11 g ≤ 128
+    → 2 * filters29 g ≤ words - filters29Start g → filters29 g ≤ 64
     → ListsFit g words
 lists-fit g words room11 most11 room29 most29 = record { lists = each; few = record { short = most11; long = most29 } }
   where

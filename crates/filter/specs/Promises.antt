@@ -86,10 +86,10 @@ pub record UnmatchedTells (anf : ℕ) (d : Goes) : Type 0 where
   pub out : 2 ≤ anf → d ≡ discarded (reason NoMatch) Nothing
 
 pub record DestinationTells (g : Registers) (mem : List ℕ) (f : Frame) (newdata : ℕ) : Type 0 where
-  pub remote : (f .rtr && remoteOut (g .gfc .word) (f .xtd)) ≡ true → destination g mem f newdata ≡ discarded (reason Remote) Nothing
-  pub unmatched : (f .rtr && remoteOut (g .gfc .word) (f .xtd)) ≡ false → NoneMatches mem (listOf g (f .xtd)) (f .id)
-      → UnmatchedTells (nonMatching (g .gfc .word) (f .xtd)) (destination g mem f newdata)
-  pub matched : (f .rtr && remoteOut (g .gfc .word) (f .xtd)) ≡ false → (i : ℕ) → FirstIs mem (listOf g (f .xtd)) (f .id) i
+  pub remote : (f .rtr && remoteOut g (f .xtd)) ≡ true → destination g mem f newdata ≡ discarded (reason Remote) Nothing
+  pub unmatched : (f .rtr && remoteOut g (f .xtd)) ≡ false → NoneMatches mem (listOf g (f .xtd)) (f .id)
+      → UnmatchedTells (nonMatching g (f .xtd)) (destination g mem f newdata)
+  pub matched : (f .rtr && remoteOut g (f .xtd)) ≡ false → (i : ℕ) → FirstIs mem (listOf g (f .xtd)) (f .id) i
       → ActionTells g newdata (filterAt mem (listOf g (f .xtd)) i) i (destination g mem f newdata)
 
 abbrev pub DestinationIsByAction : Type 0

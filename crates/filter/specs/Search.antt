@@ -4,9 +4,9 @@ use mathlib.Core.Bool.{Bool}
 use mathlib.Core.List.{List}
 use lib.ListN.{getD}
 use Rattle.words.specs.Choice.{pick}
-use Rattle.words.specs.Fields.{bits}
 use Rattle.words.specs.Least.{leastFrom}
 use Rattle.words.specs.Ranges.{Range, range}
+use Rattle.registers.specs.Fields.{filters11, filters11Start, filters29, filters29Start, xidamMask}
 use Rattle.registers.specs.declared.Registers.{Registers}
 use Rattle.filter.specs.Elements.{element11, element29}
 use Rattle.filter.specs.Matching.{matches}
@@ -17,9 +17,9 @@ use Rattle.filter.specs.declared.lists.FilterList.{FilterList}
 abbrev pub listOf : Registers → Bool → FilterList
 listOf g xtd = record {
   xtd = xtd;
-  start = record { 0 = pick xtd (bits 15 2 (g .xidfc .word)) (bits 15 2 (g .sidfc .word)) };
-  count = pick xtd (bits 22 16 (g .xidfc .word)) (bits 23 16 (g .sidfc .word));
-  xidam = bits 28 0 (g .xidam .word);
+  start = record { 0 = pick xtd (filters29Start g) (filters11Start g) };
+  count = pick xtd (filters29 g) (filters11 g);
+  xidam = xidamMask g;
 }
 
 -- how many words a list has: one for an element, two for one of 29 bits
@@ -47,5 +47,5 @@ firstMatch mem l id = leastFrom (matchesAt mem l id) 0 (l .count)
 
 -- both counts are within their most
 pub record FewFilters (g : Registers) : Type 0 where
-  pub short : bits 23 16 (g .sidfc .word) ≤ 128
-  pub long : bits 22 16 (g .xidfc .word) ≤ 64
+  pub short : filters11 g ≤ 128
+  pub long : filters29 g ≤ 64

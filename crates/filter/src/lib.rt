@@ -8,7 +8,6 @@ use crate::lists::list_of;
 use frame::Frame;
 use frame::Matched;
 use registers::Registers;
-use registers::kinds::Gfc;
 ghost use mathlib.Core.Path.{_≡_};
 ghost use Prim.Native.Nat.{_<_};
 ghost use lib.ListN.{length};
@@ -55,23 +54,23 @@ pub enum Destination {
 }
 
 // Remote frames of this kind are out: RRFS or RRFE is 1.
-fn remote_out(gfc: Gfc, xtd: bool) -> bool
-    ensures { λ r. ⌜ r ≡ remoteOut (gfc .word) xtd ⌝ }
+fn remote_out(regs: Registers, xtd: bool) -> bool
+    ensures { λ r. ⌜ r ≡ remoteOut regs xtd ⌝ }
 {
     if xtd {
-        return gfc.rrfe() == 1;
+        return regs.gfc.rrfe() == 1;
     }
-    gfc.rrfs() == 1
+    regs.gfc.rrfs() == 1
 }
 
 // What becomes of frames that no filter matches: ANFS or ANFE.
-fn non_matching(gfc: Gfc, xtd: bool) -> u32
-    ensures { λ r. ⌜ r ≡ nonMatching (gfc .word) xtd ⌝ }
+fn non_matching(regs: Registers, xtd: bool) -> u32
+    ensures { λ r. ⌜ r ≡ nonMatching regs xtd ⌝ }
 {
     if xtd {
-        return gfc.anfe();
+        return regs.gfc.anfe();
     }
-    gfc.anfs()
+    regs.gfc.anfs()
 }
 
 // No element matches.
@@ -129,7 +128,7 @@ pub fn destination_of(regs: Registers, mem: &[u32], f: Frame, newdata: u64) -> D
     requires { ⌜ ListsFit regs (length (now mem)) ⌝ }
     ensures { λ r. ⌜ meaning r ≡ destination regs (now (mem .entry)) f newdata ⌝ }
 {
-    if f.rtr & remote_out(regs.gfc, f.xtd) {
+    if f.rtr & remote_out(regs, f.xtd) {
         return Destination::Discarded(Reason::Remote, Matched::Nothing);
     }
     let list = list_of(regs, f.xtd);
@@ -138,5 +137,5 @@ pub fn destination_of(regs: Registers, mem: &[u32], f: Frame, newdata: u64) -> D
         let e = filter_at(mem, list, i);
         return by_action(e.action, e.id2, regs.buffers, newdata, i);
     }
-    unmatched(non_matching(regs.gfc, f.xtd))
+    unmatched(non_matching(regs, f.xtd))
 }

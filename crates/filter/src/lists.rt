@@ -4,7 +4,7 @@ use crate::filters::decode11;
 use crate::filters::decode29;
 use crate::filters::matches;
 use registers::Registers;
-use registers::WordAddress;
+use words::WordAddress;
 ghost use mathlib.Core.Path.{_≡_};
 ghost use Prim.Native.Nat.{_≤_, _<_};
 ghost use lib.ListN.{length};
