@@ -12,10 +12,9 @@ use Rattle.ring.specs.Rings.{placeAfter, age, held}
 use Rattle.ring.specs.declared.Ring.{Ring}
 use Rattle.ring.proofs.Circle.{place-age, place-injective}
 use Rattle.ring.proofs.Holding.{held-inside, held-age}
-use Rattle.engine.specs.declared.areas.Area.{Area}
-use Rattle.engine.specs.declared.keeping.Keeper.{Keeper}
-use Rattle.ledger.specs.Ledgers.{Entry, noEntry, isAt, among, entryAt, reaching}
-use Rattle.ledger.specs.Standing.{Holds}
+use Rattle.places.specs.declared.Area.{Area}
+use Rattle.books.specs.Ledgers.{Entry, noEntry, isAt, among, entryAt, reaching}
+use Rattle.books.specs.Standing.{Holds}
 
 -- the i-th of these is at place p
 abbrev IsAt : ℕ → ℕ → List Entry → Bool → Type 0
@@ -65,15 +64,15 @@ module _ (p : ℕ) where
   entry-at (e ∷ es) (suc i) h y n = rw (n 0 (omega arith)) (entry-at es i (omega arith) y (λ j l. n (suc j) (omega arith)))
 
 -- a held place p has its entry as many behind the oldest as p's age, and nowhere else
-module _ (k : Keeper) (a : Area) (es : List Entry) (q : Ring) (mem : List ℕ) (h : Holds k a es q mem) (p : ℕ) (e : held q (k .size) p ≡ true) where
-  pub held-here : placeAfter q (k .size) (age q (k .size) p) ≡ p
-  held-here = place-age q (k .size) (h .ring) p (held-inside q (k .size) p e)
+module _ (a : Area) (es : List Entry) (q : Ring) (mem : List ℕ) (h : Holds a es q mem) (p : ℕ) (e : held q (a .count) p ≡ true) where
+  pub held-here : placeAfter q (a .count) (age q (a .count) p) ≡ p
+  held-here = place-age q (a .count) (h .ring) p (held-inside q (a .count) p e)
 
-  pub held-there : IsAt p (age q (k .size) p) es true
-  held-there = ap (isAt p) (h .stands (age q (k .size) p) (held-age q (k .size) p e) .named) ∙ eq-eqb (placeAfter q (k .size) (age q (k .size) p)) p held-here
+  pub held-there : IsAt p (age q (a .count) p) es true
+  held-there = ap (isAt p) (h .stands (age q (a .count) p) (held-age q (a .count) p e) .named) ∙ eq-eqb (placeAfter q (a .count) (age q (a .count) p)) p held-here
 
-  pub held-once : (j : ℕ) → j < q .fill → (j ≡ age q (k .size) p → ⊥) → IsAt p j es false
+  pub held-once : (j : ℕ) → j < q .fill → (j ≡ age q (a .count) p → ⊥) → IsAt p j es false
   held-once j l n =
       ap (isAt p) (h .stands j l .named)
-      ∙ ne-eqb (placeAfter q (k .size) j) p
-      (λ c. n (place-injective q (k .size) (h .ring) j (age q (k .size) p) (omega (arith, h .ring .room)) (omega (arith, h .ring .room, held-age q (k .size) p e)) (c ∙ sym held-here)))
+      ∙ ne-eqb (placeAfter q (a .count) j) p
+      (λ c. n (place-injective q (a .count) (h .ring) j (age q (a .count) p) (omega (arith, h .ring .room)) (omega (arith, h .ring .room, held-age q (a .count) p e)) (c ∙ sym held-here)))

@@ -1,7 +1,5 @@
 pub mod Lists
 pub mod Balances
-pub mod Stores
-pub mod Sections
 pub mod Holding
 pub mod Turns
 pub mod Arrivals

@@ -9,7 +9,7 @@ use lib.Dec.{eqb}
 use lib.ListN.{length, take, drop, getD, take-append-drop}
 use borrow.Author.Tests.{ne-eqb, eqb-true, eqb-false}
 use Rattle.words.specs.Choice.{pick}
-use Rattle.ledger.specs.Lists.{tally, those, others, Each, isNumber, Numbered, Rising}
+use Rattle.books.specs.Lists.{tally, those, others, Each, isNumber, Numbered, Rising}
 
 module _ {A : Type 0} where
   pub length-snoc : (xs : List A) (x : A) → length (xs ++ x ∷ []) ≡ suc (length xs)
