@@ -7,3 +7,6 @@ pub mod Places
 pub mod Releases
 pub mod Seen
 pub mod Runs
+pub mod Requests
+pub mod Buffers
+pub mod Circles

@@ -3,7 +3,7 @@
 use Prim.Native.Nat.{ℕ, zero, suc, _+_, _≤_, _<_}
 use mathlib.Core.Path.{_≡_, refl, sym, ap, _∙_}
 use mathlib.Core.Bool.{Bool, true, false, not}
-use mathlib.Core.List.{List, [], _∷_, _++_}
+use mathlib.Core.List.{List, [], _∷_, _++_, map}
 use native.Mathlib.Omega.{arith}
 use lib.Dec.{eqb}
 use lib.ListN.{length, take, drop, getD, take-append-drop}
@@ -122,18 +122,6 @@ module _ {A : Type 0} where
         go true y ih = absurd (omega (arith, ap (λ (b : Bool). pick {A = ℕ} b 1 0) y))
         go false n ih = (f x n (e .0), ih)
 
-  -- the first passes, and none behind it
-  module _ (q : A → Bool) (d : A) where
-    pub those-first : (xs : List A) → q (getD xs 0 d) ≡ true → Each (λ x. q x ≡ false) (drop 1 xs) → those q xs ≡ take 1 xs
-    unfolding those
-    those-first [] y e = refl
-    those-first (x ∷ xs) y e = rw y (ap (λ (r : List A). x ∷ r) (those-none q xs e))
-
-    pub others-first : (xs : List A) → q (getD xs 0 d) ≡ true → Each (λ x. q x ≡ false) (drop 1 xs) → others q xs ≡ drop 1 xs
-    unfolding those
-    others-first [] y e = refl
-    others-first (x ∷ xs) y e = rw y (those-all (λ x. not (q x)) xs (each-map (λ x. q x ≡ false) (λ x. not (q x) ≡ true) xs (λ x n. ap not n) e))
-
   -- ---- two tests
 
   module _ (q p : A → Bool) where
@@ -178,6 +166,35 @@ module _ {A : Type 0} where
         go : {x : A} (t : Bool) → (t ≡ true → q x ≡ false) → q x ≡ true → not t ≡ true
         go true f y = sym (f refl) ∙ y
         go false f y = refl
+
+-- ---- members seen by what f gives of them
+
+module _ {A B : Type 0} (f : A → B) (q : B → Bool) where
+  pub tally-seen : (xs : List A) → tally q (map f xs) ≡ tally (λ x. q (f x)) xs
+  unfolding tally
+  tally-seen [] = refl
+  tally-seen (x ∷ xs) = ap (λ (n : ℕ). pick (q (f x)) 1 0 + n) (tally-seen xs)
+
+  none-seen : (xs : List A) → Each (λ y. q y ≡ false) (map f xs) → Each (λ x. q (f x) ≡ false) xs
+  none-seen [] e = tt
+  none-seen (x ∷ xs) e = (e .0, none-seen xs (e .1))
+
+  -- the first passes, and none behind it
+  module _ (d : B) where
+    pub those-first : (xs : List A) → q (getD (map f xs) 0 d) ≡ true → Each (λ y. q y ≡ false) (drop 1 (map f xs))
+        → those (λ x. q (f x)) xs ≡ take 1 xs
+    unfolding those
+    those-first [] y e = refl
+    those-first (x ∷ xs) y e = rw y (ap (λ (r : List A). x ∷ r) (those-none (λ x. q (f x)) xs (none-seen xs e)))
+
+    pub others-first : (xs : List A) → q (getD (map f xs) 0 d) ≡ true → Each (λ y. q y ≡ false) (drop 1 (map f xs))
+        → others (λ x. q (f x)) xs ≡ drop 1 xs
+    unfolding those
+    others-first [] y e = refl
+    others-first (x ∷ xs) y e =
+        rw y
+        (those-all (λ x. not (q (f x))) xs
+        (each-map (λ x. q (f x) ≡ false) (λ x. not (q (f x)) ≡ true) xs (λ x n. ap not n) (none-seen xs e)))
 
 -- ---- numbers
 

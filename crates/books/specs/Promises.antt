@@ -1,9 +1,10 @@
--- What is promised of the books: they balance, they tell what the rules answer, and they agree after each step. Statements only.
+-- What is promised of the books: they balance, tell what the rules answer, and agree after each step. Statements only.
 use Prim.Native.Nat.{ℕ, _+_, _-_, _%_, _^_, _≤_, _<_}
 use mathlib.Core.Path.{_≡_}
-use mathlib.Core.Bool.{Bool, true}
-use mathlib.Core.List.{List, [], _∷_, _++_, map}
-use lib.ListN.{length, getD}
+use mathlib.Core.Bool.{Bool, true, _&&_}
+use mathlib.Core.List.{List, [], _∷_, _++_}
+use lib.Dec.{eqb, ltb}
+use lib.ListN.{length}
 use Rattle.words.specs.Bits.{bit, isSet, withBit, withoutBit, howMany}
 use Rattle.words.specs.Ranges.{SameIn, OnlyIn}
 use Rattle.words.specs.Runs.{splice}
@@ -14,11 +15,13 @@ use Rattle.places.specs.Slots.{takeRule, slotMemory}
 use Rattle.places.specs.declared.Area.{Area}
 use Rattle.places.specs.declared.Slot.{Slot}
 use Rattle.books.specs.Lists.{tally, others}
-use Rattle.books.specs.Ledgers.{Ledger, emptyLedger, isHeldAt, entryAt, noteArrival, noteRelease, expectOldest, expectSlot}
-use Rattle.books.specs.Requests.{Accepted, RequestBook, emptyRequests, isBuffer, noteRequest, noteCancel, noteSent, hasPending, pendingIn, isShared, waiting}
-use Rattle.books.specs.Balance.{Balanced, RequestsBalanced, SentInOrder}
+use Rattle.books.specs.Ledgers.{Ledger, emptyLedger, isHeldAt, entryAt, noteArrival, noteRelease}
+use Rattle.books.specs.Ledgers.{expectOldest, expectSlot}
+use Rattle.books.specs.Requests.{Accepted, RequestBook, emptyRequests, isBuffer, isShared, oldestWaiting}
+use Rattle.books.specs.Requests.{noteRequest, noteCancel, noteSent, hasPending, pendingIn}
+use Rattle.books.specs.Balance.{Balanced, RequestsBalanced}
 use Rattle.books.specs.Standing.{RingAgrees}
-use Rattle.books.specs.Pending.{BuffersHold, bufferOf, Circling}
+use Rattle.books.specs.Pending.{BuffersHold, CircleAgrees}
 
 -- ==== the book of a ring
 
@@ -107,3 +110,109 @@ CancelBalances =
 abbrev pub SentBalances : Type 1
 SentBalances =
     (R : Type 0) (l : RequestBook R) → RequestsBalanced l → (buffer : ℕ) → RequestsBalanced (noteSent l buffer)
+
+-- ---- the buffers: nothing is pending, a step elsewhere, a request comes, and one goes
+
+abbrev pub NonePending : Type 1
+NonePending = (R : Type 0) (a : Area) (words : R → List ℕ) (mem : List ℕ) → BuffersHold a words [] 0 mem
+
+abbrev pub BuffersElsewhere : Type 1
+BuffersElsewhere =
+    (R : Type 0) (a : Area) (words : R → List ℕ) (es : List (Accepted R)) (pending : ℕ) (mem : List ℕ)
+    → BuffersHold a words es pending mem → areaEnd a ≤ length mem
+    → (next : List ℕ) → SameIn (areaRange a) mem next → BuffersHold a words es pending next
+
+-- into a buffer of the area that has none
+abbrev pub BufferFilled : Type 1
+BufferFilled =
+    (R : Type 0) (a : Area) (words : R → List ℕ) (es : List (Accepted R)) (pending : ℕ) (mem : List ℕ)
+    → BuffersHold a words es pending mem → areaEnd a ≤ length mem
+    → (e : Accepted R) → e .buffer < a .count → bit pending (e .buffer) ≡ 0 → length (words (e .request)) ≡ a .each
+    → BuffersHold a words (es ++ e ∷ []) (withBit pending (e .buffer))
+    (splice mem (placeIn a (e .buffer)) (words (e .request)))
+
+-- sent or cancelled: its bit is cleared, in a word of as many bits as there are buffers or more
+abbrev pub BufferCleared : Type 1
+BufferCleared =
+    (R : Type 0) (a : Area) (words : R → List ℕ) (es : List (Accepted R)) (pending : ℕ) (mem : List ℕ)
+    → BuffersHold a words es pending mem → (bits : ℕ) → a .count ≤ bits → (buffer : ℕ) → buffer < a .count
+    → BuffersHold a words (others (isBuffer buffer) es) (withoutBit bits pending buffer) mem
+
+-- ---- what the book tells of the buffers: which are pending, their words, how many, and that no bit is set past them
+
+abbrev pub PendingTold : Type 1
+PendingTold =
+    (R : Type 0) (a : Area) (words : R → List ℕ) (l : RequestBook R) (pending : ℕ) (mem : List ℕ)
+    → BuffersHold a words (l .pending) pending mem → (buffer : ℕ) → hasPending l buffer ≡ isSet pending buffer
+
+abbrev pub PendingWords : Type 1
+PendingWords =
+    (R : Type 0) (a : Area) (words : R → List ℕ) (l : RequestBook R) (pending : ℕ) (mem : List ℕ)
+    → BuffersHold a words (l .pending) pending mem → (none : R) (buffer : ℕ) → hasPending l buffer ≡ true
+    → wordsAt a buffer mem ≡ words (pendingIn none l buffer)
+
+abbrev pub PendingCounted : Type 1
+PendingCounted =
+    (R : Type 0) (a : Area) (words : R → List ℕ) (l : RequestBook R) (pending : ℕ) (mem : List ℕ)
+    → BuffersHold a words (l .pending) pending mem → howMany (isSet pending) (a .count) ≡ length (l .pending)
+
+abbrev pub PendingBelow : Type 1
+PendingBelow =
+    (R : Type 0) (a : Area) (words : R → List ℕ) (l : RequestBook R) (pending : ℕ) (mem : List ℕ)
+    → BuffersHold a words (l .pending) pending mem → pending < 2 ^ a .count
+
+-- ---- the circle: nothing waits, a step on a buffer before it, a request at its put place, and its oldest is sent
+
+abbrev pub NoneWaits : Type 1
+NoneWaits = (R : Type 0) (first size : ℕ) → size < 2 ^ 31 → CircleAgrees first size (emptyRequests {R = R}) noneHeld
+
+abbrev pub RequestedBefore : Type 1
+RequestedBefore =
+    (R : Type 0) (first size : ℕ) (l : RequestBook R) (ring : Ring) → CircleAgrees first size l ring
+    → (q : R) (buffer : ℕ) → buffer < first → CircleAgrees first size (noteRequest l q buffer) ring
+
+abbrev pub CancelledBefore : Type 1
+CancelledBefore =
+    (R : Type 0) (first size : ℕ) (l : RequestBook R) (ring : Ring) → CircleAgrees first size l ring
+    → (buffer : ℕ) → buffer < first → CircleAgrees first size (noteCancel l buffer) ring
+
+abbrev pub SentBefore : Type 1
+SentBefore =
+    (R : Type 0) (first size : ℕ) (l : RequestBook R) (ring : Ring) → CircleAgrees first size l ring
+    → (buffer : ℕ) → buffer < first → CircleAgrees first size (noteSent l buffer) ring
+
+abbrev pub RequestedNext : Type 1
+RequestedNext =
+    (R : Type 0) (first size : ℕ) (l : RequestBook R) (ring : Ring) → CircleAgrees first size l ring
+    → (q : R) (buffer : ℕ) → ring .fill < size → buffer ≡ first + putPlace ring size
+    → CircleAgrees first size (noteRequest l q buffer) (pushed ring)
+
+abbrev pub SentOldest : Type 1
+SentOldest =
+    (R : Type 0) (first size : ℕ) (l : RequestBook R) (ring : Ring) → CircleAgrees first size l ring
+    → (buffer : ℕ) → 0 < ring .fill → buffer ≡ first + ring .oldest
+    → CircleAgrees first size (noteSent l buffer) (released ring size 1)
+
+-- ---- what the book tells of the circle: how many it holds, which places, its oldest, and that alone is first to be sent
+
+abbrev pub CircleFilled : Type 1
+CircleFilled =
+    (R : Type 0) (first size : ℕ) (l : RequestBook R) (ring : Ring) → CircleAgrees first size l ring
+    → ring .fill ≡ tally (isShared first) (l .pending)
+
+abbrev pub CircleHeld : Type 1
+CircleHeld =
+    (R : Type 0) (first size : ℕ) (l : RequestBook R) (ring : Ring) → CircleAgrees first size l ring
+    → (p : ℕ) → p < size → hasPending l (first + p) ≡ held ring size p
+
+-- those accepted took the places in turn
+abbrev pub CircleOldest : Type 1
+CircleOldest =
+    (R : Type 0) (first size : ℕ) (l : RequestBook R) (ring : Ring) → CircleAgrees first size l ring → RequestsBalanced l
+    → ring .oldest ≡ (tally (isShared first) (l .requested) - tally (isShared first) (l .pending)) % size
+
+abbrev pub OldestFirst : Type 1
+OldestFirst =
+    (R : Type 0) (first size : ℕ) (l : RequestBook R) (ring : Ring) → CircleAgrees first size l ring
+    → (buffer : ℕ) → first ≤ buffer
+    → (ltb 0 (ring .fill) && eqb buffer (first + ring .oldest)) ≡ (hasPending l buffer && eqb (oldestWaiting first l) buffer)

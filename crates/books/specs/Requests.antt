@@ -1,7 +1,7 @@
 -- The history's own book of requests of any kind, each accepted in a buffer: kept from calls and answers alone.
 use Prim.Native.Nat.{ℕ}
 use mathlib.Core.Bool.{Bool}
-use mathlib.Core.List.{List, [], _∷_, _++_}
+use mathlib.Core.List.{List, [], _∷_, _++_, map}
 use lib.Dec.{eqb, ltb, leb}
 use lib.ListN.{length, getD}
 use Rattle.books.specs.Lists.{tally, those, others}
@@ -22,6 +22,9 @@ pub record RequestBook (R : Type 0) : Type 0 where
 module _ {R : Type 0} where
   abbrev pub emptyRequests : RequestBook R
   emptyRequests = record { requested = []; pending = []; sent = []; cancelled = [] }
+
+  abbrev pub bufferOf : Accepted R → ℕ
+  bufferOf e = e .buffer
 
   abbrev pub isBuffer : ℕ → Accepted R → Bool
   isBuffer buffer e = eqb (e .buffer) buffer
@@ -76,3 +79,7 @@ module _ {R : Type 0} where
   -- the shared ones that are pending, in the order in which they were accepted
   abbrev pub waiting : ℕ → RequestBook R → List (Accepted R)
   waiting first l = those (isShared first) (l .pending)
+
+  -- the buffer of the first of them
+  abbrev pub oldestWaiting : ℕ → RequestBook R → ℕ
+  oldestWaiting first l = getD (map bufferOf (waiting first l)) 0 0

@@ -7,7 +7,7 @@ use native.Mathlib.Nat.{add-zero, zero-add, not-suc-le-zero, le-of-suc-le-suc}
 use native.Mathlib.Numerals.{add-one}
 use native.Mathlib.Omega.{arith}
 use lib.ListN.{length, getD, take, drop, set, length-append, length-drop, length-set, take-append-drop, List·getD-append}
-use lib.Seq.{length-take-le, drop-cons, set-at, append-snoc, getD-append-add, getD-take, getD-drop, sets, sets-eq}
+use lib.Seq.{length-take-le, drop-cons, ext-getD, set-at, append-snoc, getD-append-add, getD-take, getD-drop, sets, sets-eq}
 use Rattle.words.specs.Runs.{run, splice}
 
 module _ (f : ℕ → ℕ) where
@@ -27,6 +27,14 @@ module _ (f : ℕ → ℕ) where
   unfolding run
   run-more k zero = ap (λ (x : ℕ). f x ∷ []) (sym (add-zero k))
   run-more k (suc n) = ap (λ (r : List ℕ). f k ∷ r) (run-more (suc k) n ∙ ap (λ (x : ℕ). run f (suc k) n ++ (f x ∷ [])) (omega arith))
+
+-- two runs of the same values
+pub run-alike : (f g : ℕ → ℕ) (j k n : ℕ) → ((i : ℕ) → i < n → f (j + i) ≡ g (k + i)) → run f j n ≡ run g k n
+run-alike f g j k n same =
+    ext-getD 0 (run f j n) (run g k n) (length-run f j n ∙ sym (length-run g k n))
+    (λ i l.
+        let h : i < n = omega (arith, length-run f j n) in
+        getD-run f j n i h ∙ same i h ∙ sym (getD-run g k n i h))
 
 module _ (l : List ℕ) (at : ℕ) where
   pub splice-none : l ≡ splice l at []
