@@ -21,7 +21,8 @@ use Rattle.places.specs.declared.Area.{Area}
 use Rattle.places.specs.declared.Slot.the-variants.{At, Lost}
 use Rattle.places.proofs.Stores.{store-kept}
 use Rattle.places.proofs.Takes.{take-cases}
-use Rattle.books.specs.Ledgers.{Ledger, newEntry, isFull, isBlocking, noteArrival, storedSoFar, expectPut, expectSlot}
+use Rattle.books.specs.Ledgers.{Ledger, newEntry, isFull, isBlocking, noteArrival}
+use Rattle.books.specs.Ledgers.{storedSoFar, expectPut, expectSlot}
 use Rattle.books.specs.Standing.{Holds, PutAgrees}
 use Rattle.books.specs.Promises.{ArrivalTold, ArrivalAgrees, ArrivalKeeps}
 use Rattle.books.proofs.Balances.{arrival-balances}
@@ -60,8 +61,8 @@ module _ (a : Area) (l : Ledger) (q : Ring) (mem : List ℕ) (h : Holds a (l .he
       (λ m. ap At t ∙ sym (expect-stored (a .count) o l (rw (not-full m))))
       (λ m b. sym (expect-lost (a .count) o l (is-full m) b))
       (λ m z b.
-          ap At (sym (put-full q (a .count) (h .ring) (omega (arith, h .ring .room))) ∙ t)
-          ∙ sym (expect-stored (a .count) o l (rw (b, and-false))))
+      ap At (sym (put-full q (a .count) (h .ring) (omega (arith, h .ring .room))) ∙ t)
+      ∙ sym (expect-stored (a .count) o l (rw (b, and-false))))
 
   put-after : PutAgrees (a .count) l q → (ws : List ℕ)
       → let t = takeRule (a .count) o q in PutAgrees (a .count) (noteArrival (a .count) l ws (t .slot)) (t .ring)

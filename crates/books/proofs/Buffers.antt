@@ -1,4 +1,4 @@
--- The buffers hold the book's pending requests: what follows, and that it is kept when one comes, when one goes, and elsewhere.
+-- The buffers hold the book's pending requests: what follows from it, and that it stays so when one comes or goes.
 -- Assumes nothing.
 use Prim.Native.Nat.{ℕ, zero, suc, _+_, _^_, _≤_, _<_}
 use mathlib.Core.Path.{_≡_, refl, sym, ap, _∙_}
@@ -13,7 +13,7 @@ use Rattle.words.specs.Bits.{bit, isSet, withBit, withoutBit, howMany}
 use Rattle.words.specs.Runs.{splice}
 use Rattle.words.proofs.Bits.{bit-lt, bit-of-zero, set-same, set-other}
 use Rattle.words.proofs.Bits.{cleared-same, cleared-other, cleared-clear, below-power}
-use Rattle.places.specs.Areas.{areaEnd, placeIn, wordsAt}
+use Rattle.places.specs.Areas.{placeIn, wordsAt}
 use Rattle.places.specs.declared.Area.{Area}
 use Rattle.places.proofs.Stores.{element-kept, store-there, store-other}
 use Rattle.books.specs.Lists.{tally, those, others, Each}
@@ -145,16 +145,16 @@ buffer-filled R a words es w mem h room e inside clear sized =
     let ws = words (e .request) in
     let next = splice mem (placeIn a (e .buffer)) ws in
     let there = store-there a mem room (e .buffer) inside ws sized in
+    let others = store-other a mem room (e .buffer) inside ws sized in
+    let alone : tally (isBuffer (e .buffer)) es ≡ 0 = h .bits (e .buffer) ∙ clear in
     record {
       bits = put-bits es w (h .bits) e clear;
       stands =
           each-snoc (InBuffer a words next) es e
-          (each-unless (isBuffer (e .buffer)) (InBuffer a words mem) (InBuffer a words next) es (h .bits (e .buffer) ∙ clear)
+          (each-unless (isBuffer (e .buffer)) (InBuffer a words mem) (InBuffer a words next) es alone
           (λ x n t. record {
             inside = t .inside;
-            there =
-                store-other a mem room (e .buffer) inside ws sized (x .buffer) (eqb-false (x .buffer) (e .buffer) n) (t .inside)
-                ∙ t .there;
+            there = others (x .buffer) (eqb-false (x .buffer) (e .buffer) n) (t .inside) ∙ t .there;
           })
           (h .stands))
           (record { inside = inside; there = there });

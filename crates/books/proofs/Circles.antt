@@ -14,7 +14,7 @@ use borrow.Author.Tests.{eq-eqb, ne-eqb, eqb-true, eqb-false, ltb-true, ltb-fals
 use borrow.Author.Tests.{le-leb, lt-leb, leb-false, not-true}
 use Rattle.words.specs.Runs.{run}
 use Rattle.words.proofs.Runs.{length-run, getD-run, run-more, run-alike}
-use Rattle.ring.specs.Rings.{placeAfter, putPlace, pushed, released, age, held}
+use Rattle.ring.specs.Rings.{placeAfter, pushed, released, age, held}
 use Rattle.ring.specs.declared.Ring.{Ring}
 use Rattle.ring.proofs.Circle.{place-zero, place-released, place-injective, age-place, place-age}
 use Rattle.ring.proofs.Fitness.{fit-none, fit-pushed, fit-released}
@@ -29,7 +29,7 @@ use Rattle.books.specs.Promises.{NoneWaits, RequestedBefore, CancelledBe
 use Rattle.books.specs.Promises.{SentOldest, CircleFilled, CircleHeld, CircleOldest, OldestFirst}
 use Rattle.books.proofs.Lists.{each-index, tally-append, tally-one, tally-split, tally-none, tally-some}
 use Rattle.books.proofs.Lists.{tally-both, tally-seen, those-append, those-one, those-those, those-first}
-use Rattle.books.proofs.Lists.{others-first, length-those, length-snoc}
+use Rattle.books.proofs.Lists.{others-first, length-those}
 use Rattle.books.proofs.Requests.{ordered-start, ordered-request, ordered-cancel, ordered-beside}
 use Rattle.books.proofs.Requests.{ordered-first, waiting-beside}
 use Rattle.books.proofs.Turns.{next-in-turn, oldest-in-turn}
@@ -43,7 +43,9 @@ shared-tally : {R : Type 0} (first : ℕ) (es : List (Accepted R)) (b : ℕ) →
     → tally (isBuffer b) (those (isShared first) es) ≡ tally (isBuffer b) es
 shared-tally first es b h =
     let none = tally-both (isBuffer b) (λ x. not (isShared first x))
-    (λ x n. ne-eqb (x .buffer) b (λ e. omega (arith, leb-false first (x .buffer) (not-true (isShared first x) n)))) es in
+    (λ x n. let less = leb-false first (x .buffer) (not-true (isShared first x) n) in
+    ne-eqb (x .buffer) b (λ e. omega arith))
+    es in
     omega (arith, tally-split (isBuffer b) (isShared first) es)
 
 module _ {R : Type 0} (first size : ℕ) (l : RequestBook R) (ring : Ring) (c : CircleAgrees first size l ring) where
@@ -83,16 +85,20 @@ module _ {R : Type 0} (first size : ℕ) (l : RequestBook R) (ring : Ring) (c : 
           let less : k < ring .fill = ltb-true k (ring .fill) q in
           let there : getD buffers k 0 ≡ b
           = placed k less ∙ ap (λ (x : ℕ). first + x) (place-age ring size (c .fit) p h) in
-          let some = tally-some (λ n. eqb n b) 0 buffers k (omega (arith, filled)) (eq-eqb (getD buffers k 0) b there) in
-          lt-ltb 0 (tally (isBuffer b) (l .pending)) (omega (arith, seen b (omega arith))) ∙ sym (is-held ring size p h less)
+          let here = eq-eqb (getD buffers k 0) b there in
+          let some = tally-some (λ n. eqb n b) 0 buffers k (omega (arith, filled)) here in
+          lt-ltb 0 (tally (isBuffer b) (l .pending)) (omega (arith, seen b (omega arith)))
+          ∙ sym (is-held ring size p h less)
       go false q =
           let more : ring .fill ≤ k = ltb-false k (ring .fill) q in
-          let none = tally-none (λ n. eqb n b) buffers (each-index _ 0 buffers (λ i j. ne-eqb (getD buffers i 0) b (λ e.
-              let less : i < ring .fill = omega (arith, filled) in
-              let same : placeAfter ring size i ≡ p = omega (arith, placed i less) in
-              let old = age-place ring size (c .fit) i (omega (arith, c .fit .room)) in
-              omega (arith, ap (age ring size) same)))) in
-          le-ltb 0 (tally (isBuffer b) (l .pending)) (omega (arith, seen b (omega arith))) ∙ sym (free-not-held ring size p more)
+          let none = tally-none (λ n. eqb n b) buffers (each-index _ 0 buffers (λ i j.
+          ne-eqb (getD buffers i 0) b (λ e.
+          let less : i < ring .fill = omega (arith, filled) in
+          let same : placeAfter ring size i ≡ p = omega (arith, placed i less) in
+          let old = age-place ring size (c .fit) i (omega (arith, c .fit .room)) in
+          omega (arith, ap (age ring size) same)))) in
+          le-ltb 0 (tally (isBuffer b) (l .pending)) (omega (arith, seen b (omega arith)))
+          ∙ sym (free-not-held ring size p more)
 
   -- a pending request in a shared buffer: some are held
   some-held : (b : ℕ) → first ≤ b → 0 < tally (isBuffer b) (l .pending) → 0 < ring .fill
@@ -100,7 +106,8 @@ module _ {R : Type 0} (first size : ℕ) (l : RequestBook R) (ring : Ring) (c : 
     where
       go : (k : ℕ) → ring .fill ≡ k → 0 < k
       go zero e =
-          let none = tally-none (λ n. eqb n b) buffers (each-index _ 0 buffers (λ i j. absurd (omega (arith, filled)))) in
+          let none = tally-none (λ n. eqb n b) buffers
+          (each-index _ 0 buffers (λ i j. absurd (omega (arith, filled)))) in
           absurd (omega (arith, seen b h))
       go (suc k) e = omega arith
 
@@ -222,8 +229,7 @@ sent-oldest R first size l ring c b some at = record {
       ∙ map-rest bufferOf (waiting first l)
       ∙ ap (drop 1) (c .places)
       ∙ run-rest f (ring .fill) some
-      ∙ run-alike f g 1 0 (ring .fill - 1)
-      (λ i l. ap (λ (p : ℕ). first + p) (ap (placeAfter ring size) (omega arith) ∙ sym (place-released ring size 1 (0 + i))));
+      ∙ run-alike f g 1 0 (ring .fill - 1) (λ i l. ap (λ (p : ℕ). first + p) (one-on i));
   next = place-released ring size 1 (ring .fill - 1) ∙ ap (placeAfter ring size) (omega arith) ∙ c .next;
   order = ordered-first first l (c .order) b rest (first-gone first size l ring c some b at);
 }
@@ -236,6 +242,9 @@ sent-oldest R first size l ring c b some at = record {
 
     g : ℕ → ℕ
     g i = first + placeAfter (released ring size 1) size i
+
+    one-on : (i : ℕ) → placeAfter ring size (1 + i) ≡ placeAfter (released ring size 1) size (0 + i)
+    one-on i = ap (placeAfter ring size) (omega arith) ∙ sym (place-released ring size 1 (0 + i))
 
 pub circle-filled : CircleFilled
 circle-filled R first size l ring c = sym (waits first size l ring c) ∙ length-those (isShared first) (l .pending)

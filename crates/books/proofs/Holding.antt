@@ -1,4 +1,4 @@
--- A ring that holds the book's entries holds them still: at the start, with one more, with some fewer, and after a change elsewhere.
+-- A ring that holds the book's entries: at the start, with one more, with some fewer, and after a change elsewhere.
 -- Assumes nothing.
 use Prim.Native.Nat.{ℕ, _+_, _≤_, _<_}
 use mathlib.Core.Path.{_≡_, refl, _∙_}
@@ -71,7 +71,8 @@ module _ (a : Area) (es : List Entry) (q : Ring) (mem : List ℕ) (h : Holds a e
   }
 
   -- one more, at the put place
-  module _ (e : Entry) (l : q .fill < a .count) (w : length (e .words) ≡ a .each) (s : e .slot ≡ At (putPlace q (a .count))) where
+  module _ (e : Entry) (l : q .fill < a .count) (w : length (e .words) ≡ a .each)
+      (s : e .slot ≡ At (putPlace q (a .count))) where
     abbrev put : ℕ
     put = putPlace q (a .count)
 

@@ -31,8 +31,10 @@ module _ (a : Area) (l : Ledger) (q : Ring) (mem : List ℕ) (h : Holds a (l .he
   -- all that are held were stored
   stored-held : Balanced l → q .fill ≤ storedSoFar l
   stored-held b =
-      let stored : Each (λ e. isStored (e .slot) ≡ true) (l .held) = each-index _ noEntry (l .held) (λ i m. ap isStored (h .stands i (omega (arith, h .fill)) .named)) in
-      omega (arith, h .fill, b .parted .whole (λ e. isStored (e .slot)), tally-all (λ e. isStored (e .slot)) (l .held) stored)
+      let stored : Each (λ e. isStored (e .slot) ≡ true) (l .held)
+      = each-index _ noEntry (l .held) (λ i m. ap isStored (h .stands i (omega (arith, h .fill)) .named)) in
+      let all = tally-all (λ e. isStored (e .slot)) (l .held) stored in
+      omega (arith, h .fill, b .parted .whole (λ e. isStored (e .slot)))
 
 pub words-told : WordsTold
 words-told a l q mem x p e =
@@ -42,5 +44,6 @@ words-told a l q mem x p e =
 
 pub oldest-told : OldestTold
 oldest-told a l q mem x =
-    oldest-in-turn q (a .count) (storedSoFar l) (x .holds .ring) (x .put) (stored-held a l q mem (x .holds) (x .balanced))
+    oldest-in-turn q (a .count) (storedSoFar l) (x .holds .ring) (x .put)
+    (stored-held a l q mem (x .holds) (x .balanced))
     ∙ ap (λ (n : ℕ). (storedSoFar l - n) % a .count) (sym (x .holds .fill))

@@ -39,7 +39,7 @@ module _ {R : Type 0} where
   abbrev pub RequestsBalanced : RequestBook R → Type 0
   RequestsBalanced l = Parted acceptedNumber (l .requested) (l .pending) (l .sent) (l .cancelled)
 
-  -- the shared ones are sent in the order in which they were accepted: along those sent, then those that wait, numbers rise
+  -- shared ones are sent in the order in which they were accepted: along those sent, then those that wait, numbers rise
   abbrev pub SentInOrder : ℕ → RequestBook R → Type 0
   SentInOrder first l =
       Rising acceptedNumber 0 (those (isShared first) (l .sent) ++ waiting first l) (length (l .requested))

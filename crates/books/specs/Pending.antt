@@ -1,4 +1,4 @@
--- That buffers hold exactly a book's pending requests: by bits, word for word in the memory, and shared ones in a circle.
+-- That buffers hold exactly the pending requests: by bits, word for word in the memory, and shared ones in a circle.
 use Prim.Native.Nat.{ℕ, _+_, _%_, _<_}
 use mathlib.Core.Path.{_≡_}
 use mathlib.Core.List.{List, map}
@@ -19,7 +19,8 @@ module _ {R : Type 0} where
     pub there : wordsAt a (e .buffer) mem ≡ words (e .request)
 
   -- the buffers of an area hold these requests and nothing else
-  pub record BuffersHold (a : Area) (words : R → List ℕ) (es : List (Accepted R)) (pending : ℕ) (mem : List ℕ) : Type 0 where
+  pub record BuffersHold (a : Area) (words : R → List ℕ) (es : List (Accepted R)) (pending : ℕ) (mem : List ℕ)
+      : Type 0 where
     -- bit b of the pending word is how many requests buffer b has: one or none
     pub bits : (b : ℕ) → tally (isBuffer b) es ≡ bit pending b
     pub stands : Each (InBuffer a words mem) es

@@ -193,7 +193,7 @@ SentOldest =
     → (buffer : ℕ) → 0 < ring .fill → buffer ≡ first + ring .oldest
     → CircleAgrees first size (noteSent l buffer) (released ring size 1)
 
--- ---- what the book tells of the circle: how many it holds, which places, its oldest, and that alone is first to be sent
+-- ---- what the book tells of the circle: how many it holds, which places, its oldest place, and which is to be sent
 
 abbrev pub CircleFilled : Type 1
 CircleFilled =
@@ -208,11 +208,13 @@ CircleHeld =
 -- those accepted took the places in turn
 abbrev pub CircleOldest : Type 1
 CircleOldest =
-    (R : Type 0) (first size : ℕ) (l : RequestBook R) (ring : Ring) → CircleAgrees first size l ring → RequestsBalanced l
+    (R : Type 0) (first size : ℕ) (l : RequestBook R) (ring : Ring) → CircleAgrees first size l ring
+    → RequestsBalanced l
     → ring .oldest ≡ (tally (isShared first) (l .requested) - tally (isShared first) (l .pending)) % size
 
 abbrev pub OldestFirst : Type 1
 OldestFirst =
     (R : Type 0) (first size : ℕ) (l : RequestBook R) (ring : Ring) → CircleAgrees first size l ring
     → (buffer : ℕ) → first ≤ buffer
-    → (ltb 0 (ring .fill) && eqb buffer (first + ring .oldest)) ≡ (hasPending l buffer && eqb (oldestWaiting first l) buffer)
+    → (ltb 0 (ring .fill) && eqb buffer (first + ring .oldest))
+    ≡ (hasPending l buffer && eqb (oldestWaiting first l) buffer)

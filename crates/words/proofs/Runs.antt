@@ -33,8 +33,8 @@ pub run-alike : (f g : ℕ → ℕ) (j k n : ℕ) → ((i : ℕ) → i < n → f
 run-alike f g j k n same =
     ext-getD 0 (run f j n) (run g k n) (length-run f j n ∙ sym (length-run g k n))
     (λ i l.
-        let h : i < n = omega (arith, length-run f j n) in
-        getD-run f j n i h ∙ same i h ∙ sym (getD-run g k n i h))
+    let h : i < n = omega (arith, length-run f j n) in
+    getD-run f j n i h ∙ same i h ∙ sym (getD-run g k n i h))
 
 module _ (l : List ℕ) (at : ℕ) where
   pub splice-none : l ≡ splice l at []
