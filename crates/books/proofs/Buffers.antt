@@ -6,7 +6,7 @@ use mathlib.Core.Bool.{Bool, true, false, not}
 use mathlib.Core.List.{List, [], _∷_, _++_}
 use native.Mathlib.Omega.{arith}
 use lib.Dec.{eqb, ltb}
-use lib.ListN.{length}
+use lib.ListN.{length, getD}
 use borrow.Author.Tests.{ne-eqb, eqb-true, eqb-false, ltb-true, ltb-false, lt-ltb, le-ltb, not-true}
 use Rattle.words.specs.Choice.{pick}
 use Rattle.words.specs.Bits.{bit, isSet, withBit, withoutBit, howMany}
@@ -17,7 +17,7 @@ use Rattle.places.specs.Areas.{placeIn, wordsAt}
 use Rattle.places.specs.declared.Area.{Area}
 use Rattle.places.proofs.Stores.{element-kept, store-there, store-other}
 use Rattle.books.specs.Lists.{tally, those, others, Each}
-use Rattle.books.specs.Requests.{Accepted, isBuffer}
+use Rattle.books.specs.Requests.{Accepted, RequestBook, isBuffer, hasPending}
 use Rattle.books.specs.Pending.{InBuffer, BuffersHold}
 use Rattle.books.specs.Promises.{NonePending, BuffersElsewhere, BufferFilled, BufferCleared}
 use Rattle.books.specs.Promises.{PendingTold, PendingWords, PendingCounted, PendingBelow}
@@ -171,16 +171,26 @@ buffer-cleared R a words es w mem h n few b inside = record {
 pub pending-told : PendingTold
 pending-told R a words l w mem h b = told-bit (l .pending) w (h .bits) b
 
+-- the entry that is pending in a buffer: it is of that buffer, and what is true of each is true of it
+module _ {R : Type 0} (l : RequestBook R) (d : Accepted R) (b : ℕ) (e : hasPending l b ≡ true) where
+  abbrev here : List (Accepted R)
+  here = those (isBuffer b) (l .pending)
+
+  some-here : 0 < length here
+  some-here =
+      omega (arith, ltb-true 0 (tally (isBuffer b) (l .pending)) e, length-those (isBuffer b) (l .pending))
+
+  its-buffer : isBuffer b (getD here 0 d) ≡ true
+  its-buffer = each-first (λ x. isBuffer b x ≡ true) d here some-here (each-passes (isBuffer b) (l .pending))
+
+  pub pending-has : (P : Accepted R → Type 0) → Each P (l .pending) → P (getD here 0 d)
+  pending-has P h = each-first P d here some-here (each-those (isBuffer b) P (l .pending) h)
+
 pub pending-words : PendingWords
 pending-words R a words l w mem h none b e =
-    let there : List (Accepted R) = those (isBuffer b) (l .pending) in
-    let nobody : Accepted R = record { number = 0; buffer = 0; request = none } in
-    let pending : 0 < tally (isBuffer b) (l .pending) = ltb-true 0 (tally (isBuffer b) (l .pending)) e in
-    let some : 0 < length there = omega (arith, length-those (isBuffer b) (l .pending)) in
-    let t = each-first (InBuffer a words mem) nobody there some
-    (each-those (isBuffer b) (InBuffer a words mem) (l .pending) (h .stands)) in
-    let here = each-first (λ x. isBuffer b x ≡ true) nobody there some (each-passes (isBuffer b) (l .pending)) in
-    ap (λ (k : ℕ). wordsAt a k mem) (sym (eqb-true _ b here)) ∙ t .there
+    let d : Accepted R = record { number = 0; buffer = 0; request = none } in
+    ap (λ (k : ℕ). wordsAt a k mem) (sym (eqb-true _ b (its-buffer l d b e)))
+    ∙ pending-has l d b e (InBuffer a words mem) (h .stands) .there
 
 pub pending-counted : PendingCounted
 pending-counted R a words l w mem h =

@@ -7,7 +7,8 @@ use native.Mathlib.Nat.{add-zero, zero-add, not-suc-le-zero, le-of-suc-le-suc}
 use native.Mathlib.Numerals.{add-one}
 use native.Mathlib.Omega.{arith}
 use lib.ListN.{length, getD, take, drop, set, length-append, length-drop, length-set, take-append-drop, List·getD-append}
-use lib.Seq.{length-take-le, drop-cons, ext-getD, set-at, append-snoc, getD-append-add, getD-take, getD-drop, sets, sets-eq}
+use lib.Seq.{length-take-le, drop-cons, set-at, append-snoc, getD-append-add, getD-take, getD-drop, sets, sets-eq}
+use lib.Seq.{ext-getD}
 use Rattle.words.specs.Runs.{run, splice}
 
 module _ (f : ℕ → ℕ) where
