@@ -46,7 +46,7 @@ losing k q r = record { slot = Lost; ring = q; recorded = raised r (k .first + 3
 -- what is shown of every case is shown of what is kept
 module _ (k : Keeper) (q : Ring) (r : Record) (P : Kept → Type 0)
     (put : q .fill < k .size
-        → P (record { slot = At (putPlace q (k .size)); ring = pushed q; recorded = filling r (k .first) (q .fill + 1) (k .mark) (k .size) }))
+    → P (record { slot = At (putPlace q (k .size)); ring = pushed q; recorded = filling r (k .first) (q .fill + 1) (k .mark) (k .size) }))
     (lost : P (losing k q r))
     (over : 0 < k .size → P (record { slot = At (q .oldest); ring = overwritten q (k .size); recorded = raised r (k .first) })) where
   pub keep-cases : P (keepRule k q r)

@@ -23,10 +23,8 @@ pub struct Cleared {
 
 // Clears the flags of a mask.
 pub fn clear_flags(s: State, recorded: Record, mem: &[u32], mask: u32) -> Cleared
-    ensures {
-        λ r. ⌜ settles (replied (r .reply)) (world s (r .recorded) (now (mem .entry)))
-            ≡ clearFlags (world s recorded (now (mem .entry))) mask ⌝
-    }
+    ensures { λ r. ⌜ settles (replied (r .reply)) (world s (r .recorded) (now (mem .entry)))
+        ≡ clearFlags (world s recorded (now (mem .entry))) mask ⌝ }
 {
     if is_unfit(s, recorded, mem.len()) {
         return Cleared {
@@ -90,9 +88,7 @@ fn status_of(s: State, words: usize) -> Overview
 
 // Fills, oldest and put places, and how many Tx buffers are pending.
 pub fn report_status(s: State, recorded: Record, mem: &[u32]) -> StatusAnswer
-    ensures {
-        λ a. ⌜ settles (meaning a) (world s recorded (now (mem .entry))) ≡ reportStatus (world s recorded (now (mem .entry))) ⌝
-    }
+    ensures { λ a. ⌜ settles (meaning a) (world s recorded (now (mem .entry))) ≡ reportStatus (world s recorded (now (mem .entry))) ⌝ }
 {
     let words = mem.len();
     if is_unfit(s, recorded, words) {
