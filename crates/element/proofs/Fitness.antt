@@ -8,10 +8,11 @@ use Rattle.words.specs.Bits.{isSet}
 use Rattle.frame.specs.Malformed.{malformed, WellFormed}
 use Rattle.frame.specs.Sent.{asSent}
 use Rattle.frame.specs.declared.Frame.{Frame}
-use Rattle.frame.specs.declared.Matched.{Matched}
 use Rattle.frame.proofs.Forms.{well-formed}
-use Rattle.element.specs.Fitting.{indexOf, InFields, RxInFields}
+use Rattle.element.specs.Fitting.{indexOf, InFields}
 use Rattle.element.specs.Headers.{frameIn}
+use Rattle.element.specs.Needs.{RxInFields}
+use Rattle.element.specs.declared.Arrival.{Arrival}
 use Rattle.element.proofs.Unpacking.{id-in-kind}
 
 pub formed-fits : (f : Frame) (len : ℕ) → WellFormed f len → InFields f
@@ -20,8 +21,8 @@ formed-fits f len w = record { id = w .id; dlc = w .dlc }
 pub frame-fits : (f : Frame) (len : ℕ) → malformed f len ≡ false → InFields f
 frame-fits f len e = formed-fits f len (well-formed f len e)
 
-pub rx-fits : (m : Matched) (f : Frame) (len : ℕ) → indexOf m < 128 → malformed f len ≡ false → RxInFields m f
-rx-fits m f len h e = record { index = h; frame = frame-fits f len e }
+pub rx-fits : (a : Arrival) (len : ℕ) → indexOf (a .matched) < 128 → malformed (a .frame) len ≡ false → RxInFields a
+rx-fits a len h e = record { index = h; frame = frame-fits (a .frame) len e }
 
 pub read-fits : (first second : ℕ) → InFields (frameIn first second)
 unfolding frameIn

@@ -13,6 +13,8 @@ use Rattle.frame.specs.declared.Matched.{Matched}
 use Rattle.frame.specs.declared.Matched.the-variants.{Nothing, Filter}
 use Rattle.element.specs.Fitting.{indexOf}
 use Rattle.element.specs.Word0.{idBits, word0}
+use Rattle.element.specs.declared.Arrival.{Arrival}
+use Rattle.element.specs.declared.TxHeader.{TxHeader}
 use Rattle.element.specs.Word1.{formBits, matchBits, markerBits, rxWord1, txWord1, eventWord1}
 
 -- an identifier in its place is within 28:0
@@ -70,16 +72,17 @@ module _ (m : Matched) where
 
 pub ruleset matches = (match-none, match-filter, filter-le, filter-fits)
 
-module _ (f : Frame) (form : ℕ) (e : form ≡ formBits f) where
-  pub rx-sum : (m : Matched) (time match : ℕ) → match ≡ matchBits m → match + form + time ≡ rxWord1 m f time
-  unfolding rxWord1
-  rx-sum m time match a = rw (a, e)
+pub rx-sum : (x : Arrival) (form match : ℕ) → form ≡ formBits (x .frame) → match ≡ matchBits (x .matched)
+    → match + form + x .time ≡ rxWord1 x
+unfolding rxWord1
+rx-sum x form match e a = rw (a, e)
 
-  pub tx-sum : (marker : ℕ) (wish : Bool) (top want : ℕ) → top ≡ markerBits marker → want ≡ pick wish 1 0
-      → top + want * 2 ^ 23 + form ≡ txWord1 marker wish f
-  unfolding txWord1
-  tx-sum marker wish top want a b = rw (a, b, e)
+pub tx-sum : (h : TxHeader) (form top want : ℕ) → form ≡ formBits (h .frame) → top ≡ markerBits (h .marker)
+    → want ≡ pick (h .wish) 1 0 → top + want * 2 ^ 23 + form ≡ txWord1 h
+unfolding txWord1
+tx-sum h form top want e a b = rw (a, b, e)
 
-  pub event-sum : (marker time top : ℕ) → top ≡ markerBits marker → top + 2 ^ 22 + form + time ≡ eventWord1 marker f time
-  unfolding eventWord1
-  event-sum marker time top a = rw (a, e)
+pub event-sum : (f : Frame) (form marker time top : ℕ) → form ≡ formBits f → top ≡ markerBits marker
+    → top + 2 ^ 22 + form + time ≡ eventWord1 marker f time
+unfolding eventWord1
+event-sum f form marker time top e a = rw (a, e)

@@ -3,7 +3,6 @@
 use Prim.Native.Nat.{ℕ, _+_, _*_, _/_, _%_, _<_, _≤_, min}
 use mathlib.Core.Path.{_≡_, sym, ap, ap₂, _∙_}
 use mathlib.Core.List.{List, [], _∷_}
-use mathlib.Core.Logic.{_⊎_, inl, inr}
 use native.Mathlib.Omega.{arith}
 use native.Mathlib.Nat.{add-zero}
 use lib.Dec.{ltb}
@@ -12,7 +11,8 @@ use lib.Seq.{getD-append-add}
 use Rattle.words.specs.Choice.{pick}
 use Rattle.words.specs.Runs.{run, splice}
 use Rattle.words.specs.Bytes.{byteOf, wordOf, byteIn}
-use Rattle.words.proofs.Runs.{getD-run, splice-length, splice-before, splice-after}
+use Rattle.words.proofs.Runs.{getD-run}
+use Rattle.words.proofs.Ranges.{splice-only}
 use Rattle.words.proofs.Parts.{getD-part, part-put}
 use Rattle.words.proofs.Lanes.{byte-back, bytes-back}
 use Rattle.frame.specs.Sent.{sentBytes}
@@ -32,11 +32,7 @@ use Rattle.element.proofs.WordsBack.{rx-header-back, tx-header-back, ev
 -- ---- storing
 
 pub placed : (mem : List ℕ) (at : ℕ) (ws : List ℕ) → at + length ws ≤ length mem → Placed mem at ws
-placed mem at ws h = record { size = splice-length mem at ws h; inside = part-put mem at ws h; outside = beside }
-  where
-    beside : (i : ℕ) → (i < at) ⊎ (at + length ws ≤ i) → getD (splice mem at ws) i 0 ≡ getD mem i 0
-    beside i (inl l) = splice-before mem at ws h i l
-    beside i (inr r) = splice-after mem at ws h i r
+placed mem at ws h = record { inside = part-put mem at ws h; only = splice-only mem at ws h }
 
 pub element-placed : ElementStored
 element-placed mem at first second d n h = record {
@@ -102,20 +98,24 @@ module _ (mem : List ℕ) (at first second : ℕ) (d : List ℕ) (n : ℕ) (hold
 
 pub rx-back : RxReadsBack
 unfolding rxHeaderIn
-rx-back mem at n m f time d holds i w t small =
-    let header = rx-header-back f (formed-fits f (length d) w) m time i t in
+rx-back mem at n a d holds i w t small =
+    let header = rx-header-back a (formed-fits (a .frame) (length d) w) i t in
     record {
-      header = headed-back mem at (word0 f) (rxWord1 m f time) d n holds rxHeaderIn ∙ header;
-      bytes = element-bytes mem at (word0 f) (rxWord1 m f time) d n holds small (ap (λ (h : RxHeader). lengthOf (h .frame)) header ∙ sym (w .length));
+      header = headed-back mem at (word0 (a .frame)) (rxWord1 a) d n holds rxHeaderIn ∙ header;
+      bytes =
+          element-bytes mem at (word0 (a .frame)) (rxWord1 a) d n holds small
+          (ap (λ (h : RxHeader). lengthOf (h .frame)) header ∙ sym (w .length));
     }
 
 pub tx-back : TxReadsBack
 unfolding txHeaderIn
-tx-back mem at n marker wish f d holds k w small =
-    let header = tx-header-back f (formed-fits f (length d) w) marker wish k in
+tx-back mem at n x d holds k w small =
+    let header = tx-header-back x (formed-fits (x .frame) (length d) w) k in
     record {
-      header = headed-back mem at (word0 f) (txWord1 marker wish f) d n holds txHeaderIn ∙ header;
-      bytes = element-bytes mem at (word0 f) (txWord1 marker wish f) d n holds small (ap (λ (h : TxHeader). lengthOf (h .frame)) header ∙ sym (w .length));
+      header = headed-back mem at (word0 (x .frame)) (txWord1 x) d n holds txHeaderIn ∙ header;
+      bytes =
+          element-bytes mem at (word0 (x .frame)) (txWord1 x) d n holds small
+          (ap (λ (h : TxHeader). lengthOf (h .frame)) header ∙ sym (w .length));
     }
 
 -- an event is an element with no data words

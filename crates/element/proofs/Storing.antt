@@ -9,7 +9,7 @@ use Rattle.words.specs.Runs.{run, splice}
 use Rattle.words.specs.Bytes.{wordOf}
 use Rattle.words.proofs.Runs.{length-run, splice-none, splice-cons}
 use Rattle.frame.specs.declared.Frame.{Frame}
-use Rattle.element.specs.Fitting.{HasElement}
+use Rattle.element.specs.Needs.{HasElement}
 use Rattle.element.specs.Word0.{word0}
 use Rattle.element.specs.Word1.{eventWord1}
 use Rattle.element.specs.Elements.{element, eventElement}

@@ -8,11 +8,13 @@ use Rattle.words.specs.Choice.{pick}
 use Rattle.words.specs.Bits.{bit, isSet}
 use Rattle.words.specs.Fields.{bits}
 use Rattle.frame.specs.declared.Frame.{Frame}
-use Rattle.frame.specs.declared.Matched.{Matched}
 use Rattle.element.specs.Fitting.{anmfOf, indexOf, InFields}
 use Rattle.element.specs.Word0.{idIn, word0}
 use Rattle.element.specs.Word1.{formBits, markerIn, rxWord1, txWord1, eventWord1}
 use Rattle.element.specs.Headers.{frameIn, rxHeaderIn, txHeaderIn, eventHeaderIn}
+use Rattle.element.specs.Promises.{arrivalHeader}
+use Rattle.element.specs.declared.Arrival.{Arrival}
+use Rattle.element.specs.declared.TxHeader.{TxHeader}
 use Rattle.element.proofs.Packing.{id-lt, id-long, id-short}
 
 one-le : (b : Bool) → pick b 1 0 ≤ 1
@@ -74,70 +76,82 @@ module _ (f : Frame) (h : InFields f) where
     unfolding frameIn
     frame-back = simp (dlc-back, fdf-back, brs-back, xtd-back, rtr-back, esi-back, id-back (f .xtd) refl)
 
-  -- an Rx element: ANMF and the index stand above, the timestamp below
-  module _ (m : Matched) (time : ℕ) (i : indexOf m < 128) (t : time < 2 ^ 16) where
-    abbrev rxTop : ℕ
-    rxTop = pick (anmfOf m) 1 0 * 2 ^ 9 + indexOf m * 2 ^ 2
+-- an Rx element: ANMF and the index stand above, the timestamp below
+module _ (a : Arrival) (h : InFields (a .frame)) (i : indexOf (a .matched) < 128) (t : a .time < 2 ^ 16) where
+  abbrev rxTop : ℕ
+  rxTop = pick (anmfOf (a .matched)) 1 0 * 2 ^ 9 + indexOf (a .matched) * 2 ^ 2
 
-    rx-split : rxWord1 m f time ≡ rxTop * 2 ^ 22 + formBits f + time
-    unfolding rxWord1
-    rx-split = omega arith
+  rx-split : rxWord1 a ≡ rxTop * 2 ^ 22 + formBits (a .frame) + a .time
+  unfolding rxWord1
+  rx-split = omega arith
 
-    rx-top : rxWord1 m f time / 2 ^ 22 ≡ rxTop
-    rx-top = top-back rxTop time (rxWord1 m f time) t rx-split
+  rx-top : rxWord1 a / 2 ^ 22 ≡ rxTop
+  rx-top = top-back (a .frame) h rxTop (a .time) (rxWord1 a) t rx-split
 
-    anmf-back : isSet (rxWord1 m f time) 31 ≡ anmfOf m
-    anmf-back = set-is (rxWord1 m f time) 31 (anmfOf m) (omega (arith, rx-top, one-le (anmfOf m)))
+  anmf-back : isSet (rxWord1 a) 31 ≡ anmfOf (a .matched)
+  anmf-back = set-is (rxWord1 a) 31 (anmfOf (a .matched)) (omega (arith, rx-top, one-le (anmfOf (a .matched))))
 
-    index-back : bits 30 24 (rxWord1 m f time) ≡ indexOf m
-    index-back = omega (arith, rx-top, one-le (anmfOf m))
+  index-back : bits 30 24 (rxWord1 a) ≡ indexOf (a .matched)
+  index-back = omega (arith, rx-top, one-le (anmfOf (a .matched)))
 
-    pub rx-header-back : rxHeaderIn (word0 f) (rxWord1 m f time) ≡ record { frame = f; anmf = anmfOf m; index = indexOf m; time = time }
-    unfolding rxHeaderIn
-    rx-header-back =
-        simp (frame-back rxTop time (rxWord1 m f time) t rx-split, anmf-back, index-back, low-back rxTop time (rxWord1 m f time) t rx-split)
+  pub rx-header-back : rxHeaderIn (word0 (a .frame)) (rxWord1 a) ≡ arrivalHeader a
+  unfolding rxHeaderIn
+  rx-header-back =
+      simp (
+        frame-back (a .frame) h rxTop (a .time) (rxWord1 a) t rx-split,
+        anmf-back,
+        index-back,
+        low-back (a .frame) h rxTop (a .time) (rxWord1 a) t rx-split,
+      )
 
-  -- a Tx element: the marker and the wish stand above, nothing below
-  module _ (marker : ℕ) (wish : Bool) (k : marker < 256) where
-    abbrev txTop : ℕ
-    txTop = marker * 2 ^ 2 + pick wish 1 0 * 2
+-- a Tx element: the marker and the wish stand above, nothing below
+module _ (x : TxHeader) (h : InFields (x .frame)) (k : x .marker < 256) where
+  abbrev txTop : ℕ
+  txTop = x .marker * 2 ^ 2 + pick (x .wish) 1 0 * 2
 
-    tx-split : txWord1 marker wish f ≡ txTop * 2 ^ 22 + formBits f + 0
-    unfolding txWord1
-    tx-split = omega arith
+  tx-split : txWord1 x ≡ txTop * 2 ^ 22 + formBits (x .frame) + 0
+  unfolding txWord1
+  tx-split = omega arith
 
-    tx-top : txWord1 marker wish f / 2 ^ 22 ≡ txTop
-    tx-top = top-back txTop 0 (txWord1 marker wish f) (omega arith) tx-split
+  tx-top : txWord1 x / 2 ^ 22 ≡ txTop
+  tx-top = top-back (x .frame) h txTop 0 (txWord1 x) (omega arith) tx-split
 
-    tx-marker-back : markerIn (txWord1 marker wish f) ≡ marker
-    tx-marker-back = omega (arith, tx-top, one-le wish)
+  tx-marker-back : markerIn (txWord1 x) ≡ x .marker
+  tx-marker-back = omega (arith, tx-top, one-le (x .wish))
 
-    wish-back : isSet (txWord1 marker wish f) 23 ≡ wish
-    wish-back = set-is (txWord1 marker wish f) 23 wish (omega (arith, tx-top, one-le wish))
+  wish-back : isSet (txWord1 x) 23 ≡ x .wish
+  wish-back = set-is (txWord1 x) 23 (x .wish) (omega (arith, tx-top, one-le (x .wish)))
 
-    pub tx-header-back : txHeaderIn (word0 f) (txWord1 marker wish f) ≡ record { frame = f; marker = marker; wish = wish }
-    unfolding txHeaderIn
-    tx-header-back = simp (frame-back txTop 0 (txWord1 marker wish f) (omega arith) tx-split, tx-marker-back, wish-back)
+  pub tx-header-back : txHeaderIn (word0 (x .frame)) (txWord1 x) ≡ x
+  unfolding txHeaderIn
+  tx-header-back =
+      simp (frame-back (x .frame) h txTop 0 (txWord1 x) (omega arith) tx-split, tx-marker-back, wish-back)
 
-  -- an event: the marker and the type stand above, the timestamp below
-  module _ (marker time : ℕ) (k : marker < 256) (t : time < 2 ^ 16) where
-    abbrev eventTop : ℕ
-    eventTop = marker * 2 ^ 2 + 1
+-- an event: the marker and the type stand above, the timestamp below
+module _ (f : Frame) (h : InFields f) (marker time : ℕ) (k : marker < 256) (t : time < 2 ^ 16) where
+  abbrev eventTop : ℕ
+  eventTop = marker * 2 ^ 2 + 1
 
-    event-split : eventWord1 marker f time ≡ eventTop * 2 ^ 22 + formBits f + time
-    unfolding eventWord1
-    event-split = omega arith
+  event-split : eventWord1 marker f time ≡ eventTop * 2 ^ 22 + formBits f + time
+  unfolding eventWord1
+  event-split = omega arith
 
-    event-top : eventWord1 marker f time / 2 ^ 22 ≡ eventTop
-    event-top = top-back eventTop time (eventWord1 marker f time) t event-split
+  event-top : eventWord1 marker f time / 2 ^ 22 ≡ eventTop
+  event-top = top-back f h eventTop time (eventWord1 marker f time) t event-split
 
-    event-marker-back : markerIn (eventWord1 marker f time) ≡ marker
-    event-marker-back = omega (arith, event-top)
+  event-marker-back : markerIn (eventWord1 marker f time) ≡ marker
+  event-marker-back = omega (arith, event-top)
 
-    kind-back : bits 23 22 (eventWord1 marker f time) ≡ 1
-    kind-back = omega (arith, event-top)
+  kind-back : bits 23 22 (eventWord1 marker f time) ≡ 1
+  kind-back = omega (arith, event-top)
 
-    pub event-header-back : eventHeaderIn (word0 f) (eventWord1 marker f time) ≡ record { frame = f; marker = marker; kind = 1; time = time }
-    unfolding eventHeaderIn
-    event-header-back =
-        simp (frame-back eventTop time (eventWord1 marker f time) t event-split, event-marker-back, kind-back, low-back eventTop time (eventWord1 marker f time) t event-split)
+  pub event-header-back : eventHeaderIn (word0 f) (eventWord1 marker f time)
+      ≡ record { frame = f; marker = marker; kind = 1; time = time }
+  unfolding eventHeaderIn
+  event-header-back =
+      simp (
+        frame-back f h eventTop time (eventWord1 marker f time) t event-split,
+        event-marker-back,
+        kind-back,
+        low-back f h eventTop time (eventWord1 marker f time) t event-split,
+      )

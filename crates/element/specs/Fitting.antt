@@ -1,8 +1,6 @@
--- What has to fit into the fields of an element's words, and an element into the memory.
-use Prim.Native.Nat.{ℕ, _+_, _≤_, _<_}
+-- The filter's match as fields, and a frame whose values fit theirs.
+use Prim.Native.Nat.{ℕ, _≤_}
 use mathlib.Core.Bool.{Bool, true, false}
-use mathlib.Core.List.{List}
-use lib.ListN.{length}
 use Rattle.frame.specs.Identifier.{IdInKind}
 use Rattle.frame.specs.declared.Frame.{Frame}
 use Rattle.frame.specs.declared.Matched.{Matched}
@@ -22,13 +20,3 @@ indexOf (Filter i) = i
 pub record InFields (f : Frame) : Type 0 where
   pub id : IdInKind (f .xtd) (f .id)
   pub dlc : f .dlc ≤ 15
-
--- the filter's index does too
-pub record RxInFields (m : Matched) (f : Frame) : Type 0 where
-  pub index : indexOf m < 128
-  pub frame : InFields f
-
--- the memory has an element of n data words from word at on
-pub record HasElement (mem : List ℕ) (at n : ℕ) : Type 0 where
-  pub inside : at + 2 + n ≤ length mem
-  pub small : n ≤ 16

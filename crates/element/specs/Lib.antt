@@ -1,4 +1,5 @@
 pub mod Fitting
+pub mod Needs
 pub mod Word0
 pub mod Word1
 pub mod Elements

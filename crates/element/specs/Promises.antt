@@ -1,20 +1,21 @@
 -- What is stored in an element is what is read from it, and nothing else of the memory changes.
 use Prim.Native.Nat.{ℕ, _+_, _*_, _^_, _<_, _≤_, min}
 use mathlib.Core.Path.{_≡_}
-use mathlib.Core.Bool.{Bool}
 use mathlib.Core.List.{List}
-use mathlib.Core.Logic.{_⊎_}
 use lib.ListN.{length, getD, take}
+use Rattle.words.specs.Ranges.{range, OnlyIn}
 use Rattle.words.specs.Runs.{run, part, splice}
 use Rattle.words.specs.Bytes.{byteIn}
 use Rattle.frame.specs.Malformed.{WellFormed}
 use Rattle.frame.specs.Sent.{sentBytes}
 use Rattle.frame.specs.declared.Frame.{Frame}
-use Rattle.frame.specs.declared.Matched.{Matched}
 use Rattle.element.specs.Fitting.{anmfOf, indexOf, InFields}
 use Rattle.element.specs.Elements.{element, rxElement, txElement, eventElement}
 use Rattle.element.specs.Headers.{rxHeaderIn, txHeaderIn, eventHeaderIn, headed}
 use Rattle.element.specs.Bytes.{readBytes, sentFrom}
+use Rattle.element.specs.declared.Arrival.{Arrival}
+use Rattle.element.specs.declared.RxHeader.{RxHeader}
+use Rattle.element.specs.declared.TxHeader.{TxHeader}
 
 -- the memory holds these words from word at on
 abbrev pub Holds : List ℕ → ℕ → List ℕ → Type 0
@@ -24,9 +25,8 @@ Holds mem at ws = part at (length ws) mem ≡ ws
 
 -- after a store the memory holds the words, and all else is as it was
 pub record Placed (mem : List ℕ) (at : ℕ) (ws : List ℕ) : Type 0 where
-  pub size : length (splice mem at ws) ≡ length mem
   pub inside : Holds (splice mem at ws) at ws
-  pub outside : (i : ℕ) → (i < at) ⊎ (at + length ws ≤ i) → getD (splice mem at ws) i 0 ≡ getD mem i 0
+  pub only : OnlyIn (range at (length ws)) mem (splice mem at ws)
 
 -- an element of n data words takes 2 + n words
 pub record ElementPlaced (mem : List ℕ) (at first second : ℕ) (d : List ℕ) (n : ℕ) : Type 0 where
@@ -54,29 +54,34 @@ pub record BytesBack (mem : List ℕ) (at n : ℕ) (d : List ℕ) : Type 0 where
   pub read : readBytes mem at n ≡ take (min (length d) (4 * n)) d
   pub sent : (count : ℕ) → sentFrom mem at n count ≡ sentBytes (4 * n) d count
 
--- a received frame comes back, with its match and its timestamp
-pub record RxBack (mem : List ℕ) (at n : ℕ) (m : Matched) (f : Frame) (time : ℕ) (d : List ℕ) : Type 0 where
-  pub header : headed rxHeaderIn mem at ≡ record { frame = f; anmf = anmfOf m; index = indexOf m; time = time }
+-- what stands in the first two words of an arrival's element
+abbrev pub arrivalHeader : Arrival → RxHeader
+arrivalHeader a =
+    record { frame = a .frame; anmf = anmfOf (a .matched); index = indexOf (a .matched); time = a .time }
+
+-- an arrival comes back: its frame, its match, its timestamp and its data
+pub record RxBack (mem : List ℕ) (at n : ℕ) (a : Arrival) (d : List ℕ) : Type 0 where
+  pub header : headed rxHeaderIn mem at ≡ arrivalHeader a
   pub bytes : BytesBack mem at n d
 
 abbrev pub RxReadsBack : Type 0
 RxReadsBack =
-    (mem : List ℕ) (at n : ℕ) (m : Matched) (f : Frame) (time : ℕ) (d : List ℕ)
-    → Holds mem at (rxElement m f time d n)
-    → indexOf m < 128 → WellFormed f (length d) → time < 2 ^ 16 → AreBytes d
-    → RxBack mem at n m f time d
+    (mem : List ℕ) (at n : ℕ) (a : Arrival) (d : List ℕ)
+    → Holds mem at (rxElement a d n)
+    → indexOf (a .matched) < 128 → WellFormed (a .frame) (length d) → a .time < 2 ^ 16 → AreBytes d
+    → RxBack mem at n a d
 
 -- a request comes back: its frame, its marker, its wish and its data
-pub record TxBack (mem : List ℕ) (at n marker : ℕ) (wish : Bool) (f : Frame) (d : List ℕ) : Type 0 where
-  pub header : headed txHeaderIn mem at ≡ record { frame = f; marker = marker; wish = wish }
+pub record TxBack (mem : List ℕ) (at n : ℕ) (h : TxHeader) (d : List ℕ) : Type 0 where
+  pub header : headed txHeaderIn mem at ≡ h
   pub bytes : BytesBack mem at n d
 
 abbrev pub TxReadsBack : Type 0
 TxReadsBack =
-    (mem : List ℕ) (at n marker : ℕ) (wish : Bool) (f : Frame) (d : List ℕ)
-    → Holds mem at (txElement marker wish f d n)
-    → marker < 256 → WellFormed f (length d) → AreBytes d
-    → TxBack mem at n marker wish f d
+    (mem : List ℕ) (at n : ℕ) (h : TxHeader) (d : List ℕ)
+    → Holds mem at (txElement h d n)
+    → h .marker < 256 → WellFormed (h .frame) (length d) → AreBytes d
+    → TxBack mem at n h d
 
 -- an event comes back, of type 1
 abbrev pub EventReadsBack : Type 0

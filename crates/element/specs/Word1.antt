@@ -1,11 +1,12 @@
 -- Word 1 of each kind of element: its fields added up. Bits that are not named are 0.
 use Prim.Native.Nat.{ℕ, _+_, _*_, _^_}
-use mathlib.Core.Bool.{Bool}
 use Rattle.words.specs.Choice.{pick}
 use Rattle.words.specs.Fields.{bits}
 use Rattle.frame.specs.declared.Frame.{Frame}
 use Rattle.frame.specs.declared.Matched.{Matched}
 use Rattle.element.specs.Fitting.{anmfOf, indexOf}
+use Rattle.element.specs.declared.Arrival.{Arrival}
+use Rattle.element.specs.declared.TxHeader.{TxHeader}
 
 -- in every kind: FDF 21, BRS 20, DLC 19:16
 unfoldable pub formBits : Frame → ℕ
@@ -23,12 +24,12 @@ abbrev pub markerIn : ℕ → ℕ
 markerIn w = bits 31 24 w
 
 -- an Rx element's: the match, and the timestamp in 15:0
-unfoldable pub rxWord1 : Matched → Frame → ℕ → ℕ
-rxWord1 m f time = matchBits m + formBits f + time
+unfoldable pub rxWord1 : Arrival → ℕ
+rxWord1 a = matchBits (a .matched) + formBits (a .frame) + a .time
 
 -- a Tx element's: the marker, and event wanted 23
-unfoldable pub txWord1 : ℕ → Bool → Frame → ℕ
-txWord1 marker wish f = markerBits marker + pick wish 1 0 * 2 ^ 23 + formBits f
+unfoldable pub txWord1 : TxHeader → ℕ
+txWord1 h = markerBits (h .marker) + pick (h .wish) 1 0 * 2 ^ 23 + formBits (h .frame)
 
 -- an event's: the marker, type 1 in 23:22, and the timestamp in 15:0
 unfoldable pub eventWord1 : ℕ → Frame → ℕ → ℕ

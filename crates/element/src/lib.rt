@@ -4,6 +4,16 @@ pub mod pack;
 pub mod unpack;
 
 use frame::Frame;
+use frame::Matched;
+
+// What a receive stores. The frame's bytes are lent beside it.
+pub struct Arrival {
+    pub frame: Frame,
+    // the timestamp
+    pub time: u16,
+    // the filter that matched
+    pub matched: Matched,
+}
 
 // What stands in the first two words of an Rx element.
 pub struct RxHeader {
@@ -23,10 +33,10 @@ pub struct RxRead {
     pub count: u32,
 }
 
-// What stands in the first two words of a Tx element.
+// What a request brings, and what stands in the first two words of a Tx element. The frame's bytes are lent beside it.
 pub struct TxHeader {
     pub frame: Frame,
-    pub marker: u32,
+    pub marker: u8,
     // an event is wanted
     pub wish: bool,
 }

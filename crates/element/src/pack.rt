@@ -1,11 +1,14 @@
 // A frame as words: word 0, the same in every element, and word 1 of each kind.
+use crate::Arrival;
+use crate::TxHeader;
 use frame::Frame;
 use frame::Matched;
 use frame::bit_of;
 ghost use mathlib.Core.Path.{_≡_};
 ghost use Prim.Native.Nat.{_*_, _^_, _≤_, _<_};
 ghost use Rattle.frame.specs.Identifier.{IdInKind};
-ghost use Rattle.element.specs.Fitting.{indexOf, InFields, RxInFields};
+ghost use Rattle.element.specs.Fitting.{indexOf, InFields};
+ghost use Rattle.element.specs.Needs.{RxInFields};
 ghost use Rattle.element.specs.Word0.{idBits, word0};
 ghost use Rattle.element.specs.Word1.{formBits, matchBits, markerBits, rxWord1, txWord1, eventWord1};
 
@@ -55,19 +58,20 @@ fn marker_bits(marker: u8) -> u32
 }
 
 // Word 1 of an Rx element.
-pub fn rx_second_word(m: Matched, f: Frame, time: u16) -> u32
-    requires { ⌜ RxInFields m f ⌝ }
-    ensures { λ r. ⌜ r ≡ rxWord1 m f time ⌝ }
+pub fn rx_second_word(a: Arrival) -> u32
+    requires { ⌜ RxInFields a ⌝ }
+    ensures { λ r. ⌜ r ≡ rxWord1 a ⌝ }
 {
-    match_bits(m) + form_bits(f) + time as u32
+    let m = a.matched;
+    match_bits(m) + form_bits(a.frame) + a.time as u32
 }
 
 // Word 1 of a Tx element.
-pub fn tx_second_word(marker: u8, wish: bool, f: Frame) -> u32
-    requires { ⌜ InFields f ⌝ }
-    ensures { λ r. ⌜ r ≡ txWord1 marker wish f ⌝ }
+pub fn tx_second_word(h: TxHeader) -> u32
+    requires { ⌜ InFields (h .frame) ⌝ }
+    ensures { λ r. ⌜ r ≡ txWord1 h ⌝ }
 {
-    marker_bits(marker) + bit_of(wish) * 0x80_0000 + form_bits(f)
+    marker_bits(h.marker) + bit_of(h.wish) * 0x80_0000 + form_bits(h.frame)
 }
 
 // Word 1 of an event.

@@ -39,10 +39,10 @@ fn frame_in(first: u32, second: u32) -> Frame
     }
 }
 
-fn marker_in(second: u32) -> u32
-    ensures { λ r. ⌜ (r ≡ markerIn second) × (r < 256) ⌝ }
+fn marker_in(second: u32) -> u8
+    ensures { λ r. ⌜ r ≡ markerIn second ⌝ }
 {
-    second / 0x100_0000 % 256
+    (second / 0x100_0000 % 256) as u8
 }
 
 fn time_in(second: u32) -> u32
@@ -64,7 +64,7 @@ pub fn rx_header(first: u32, second: u32) -> RxHeader
 }
 
 pub fn tx_header(first: u32, second: u32) -> TxHeader
-    ensures { λ r. ⌜ (r ≡ txHeaderIn first second) × InFields (r .frame) × (r .marker < 256) ⌝ }
+    ensures { λ r. ⌜ (r ≡ txHeaderIn first second) × InFields (r .frame) ⌝ }
 {
     let frame = frame_in(first, second);
     TxHeader {
@@ -80,7 +80,7 @@ pub fn event_header(first: u32, second: u32) -> EventHeader
     let frame = frame_in(first, second);
     EventHeader {
         frame,
-        marker: marker_in(second),
+        marker: marker_in(second) as u32,
         kind: second / 0x40_0000 % 4,
         time: time_in(second),
     }

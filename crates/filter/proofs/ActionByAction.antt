@@ -10,7 +10,7 @@ use Rattle.words.specs.Fields.{bits}
 use Rattle.words.specs.Bits.{bit, isSet}
 use Rattle.registers.specs.declared.Registers.{Registers}
 use Rattle.frame.specs.declared.Frame.{Frame}
-use Rattle.filter.specs.Search.{listOf, elementAt, firstMatch}
+use Rattle.filter.specs.Search.{listOf, filterAt, firstMatch}
 use Rattle.filter.specs.Destination.{Goes, remoteOut, nonMatching, unmatched, rxBuffer, byAction, destination}
 use Rattle.filter.specs.Promises.{FirstIs, NoneMatches, ActionTells, UnmatchedTells, DestinationIsByAction}
 use Rattle.filter.specs.declared.filters.FilterElement.{FilterElement}
@@ -56,25 +56,25 @@ module _ (g : Registers) (mem : List ℕ) (f : Frame) (newdata : ℕ) where
   list = listOf g (f .xtd)
 
   abbrev out : Bool
-  out = remoteOut (g .gfc .word) (f .xtd)
+  out = remoteOut g (f .xtd)
 
   module _ (stays : (f .rtr && out) ≡ false) where
-    pub destination-unmatched : NoneMatches mem list (f .id) → unmatched (nonMatching (g .gfc .word) (f .xtd)) ≡ destination g mem f newdata
+    pub destination-unmatched : NoneMatches mem list (f .id) → unmatched (nonMatching g (f .xtd)) ≡ destination g mem f newdata
     destination-unmatched none =
         let past : list .count ≤ firstMatch mem list (f .id) = omega (arith, none-searched mem list (f .id) none) in
-        let anf = nonMatching (g .gfc .word) (f .xtd) in
+        let anf = nonMatching g (f .xtd) in
         goes-unmatched g mem f newdata out refl stays list refl (firstMatch mem list (f .id)) refl anf (unmatched anf) past refl refl
 
     pub destination-matched : (i : ℕ) → FirstIs mem list (f .id) i
-        → byAction (elementAt mem list i .action) (elementAt mem list i .id2) (g .buffers) newdata i ≡ destination g mem f newdata
+        → byAction (filterAt mem list i .action) (filterAt mem list i .id2) (g .buffers) newdata i ≡ destination g mem f newdata
     destination-matched i s =
-        let e = elementAt mem list i in
+        let e = filterAt mem list i in
         goes-by-match g mem f newdata out refl stays list refl i (sym (first-searched mem list (f .id) i s)) e
         (byAction (e .action) (e .id2) (g .buffers) newdata i) (s .within) refl refl
 
 pub destination-is-by-action : DestinationIsByAction
 destination-is-by-action g mem f newdata = record {
   remote = λ h. sym (goes-out g mem f newdata (out g mem f newdata) refl h);
-  unmatched = λ stays none. unmatched-tells (nonMatching (g .gfc .word) (f .xtd)) (destination g mem f newdata) (destination-unmatched g mem f newdata stays none);
-  matched = λ stays i s. action-tells g newdata (elementAt mem (listOf g (f .xtd)) i) i (destination g mem f newdata) (destination-matched g mem f newdata stays i s);
+  unmatched = λ stays none. unmatched-tells (nonMatching g (f .xtd)) (destination g mem f newdata) (destination-unmatched g mem f newdata stays none);
+  matched = λ stays i s. action-tells g newdata (filterAt mem (listOf g (f .xtd)) i) i (destination g mem f newdata) (destination-matched g mem f newdata stays i s);
 }

@@ -15,7 +15,7 @@ use Rattle.registers.specs.declared.Registers.{Registers}
 use Rattle.frame.specs.declared.Frame.{Frame}
 use Rattle.frame.specs.declared.Matched.{Matched}
 use Rattle.frame.specs.declared.Matched.the-variants.{Nothing, Filter}
-use Rattle.filter.specs.Search.{listOf, elementAt, firstMatch, ListsFit}
+use Rattle.filter.specs.Search.{listOf, filterAt, firstMatch, FewFilters}
 use Rattle.filter.specs.Destination.{Goes, toFifo, toBuffer, discarded, meaning, remoteOut, nonMatching, unmatched, rxBuffer, byAction, bySearch, destination}
 use Rattle.filter.specs.Promises.{IndexBelow, Within, DestinationIsWithin}
 use Rattle.filter.specs.declared.Reason.{Reason}
@@ -68,26 +68,26 @@ module _ (g : Registers) (newdata : ℕ) where
         (λ e. buffer-within id2))))))
 
 -- a list has at most 128 elements
-list-most : (g : Registers) (words : ℕ) (xtd : Bool) → ListsFit g words → listOf g xtd .count ≤ 128
-list-most g words true fit = omega (arith, fit .filters29)
-list-most g words false fit = omega (arith, fit .filters11)
+list-most : (g : Registers) (xtd : Bool) → FewFilters g → listOf g xtd .count ≤ 128
+list-most g true few = omega (arith, few .long)
+list-most g false few = omega (arith, few .short)
 
 pub destination-is-within : DestinationIsWithin
 unfolding destination bySearch
-destination-is-within g words mem f newdata fit =
+destination-is-within g mem f newdata few =
     let l = listOf g (f .xtd) in
     let i = firstMatch mem l (f .id) in
-    chosen g newdata (f .rtr && remoteOut (g .gfc .word) (f .xtd)) (discarded 0 Nothing) _ (λ e. (omega arith, no-index))
-    (λ e. chosen g newdata (ltb i (l .count)) (byAction (elementAt mem l i .action) (elementAt mem l i .id2) (g .buffers) newdata i) (unmatched (nonMatching (g .gfc .word) (f .xtd)))
-    (λ found. action-within g newdata i (omega (arith, ltb-true i (l .count) found, list-most g words (f .xtd) fit)) (elementAt mem l i .action) (elementAt mem l i .id2))
-    (λ none. unmatched-within g newdata (nonMatching (g .gfc .word) (f .xtd))))
+    chosen g newdata (f .rtr && remoteOut g (f .xtd)) (discarded 0 Nothing) _ (λ e. (omega arith, no-index))
+    (λ e. chosen g newdata (ltb i (l .count)) (byAction (filterAt mem l i .action) (filterAt mem l i .id2) (g .buffers) newdata i) (unmatched (nonMatching g (f .xtd)))
+    (λ found. action-within g newdata i (omega (arith, ltb-true i (l .count) found, list-most g (f .xtd) few)) (filterAt mem l i .action) (filterAt mem l i .id2))
+    (λ none. unmatched-within g newdata (nonMatching g (f .xtd))))
 
 -- ---- of an answer of the code, by its case
 
-module _ (g : Registers) (words : ℕ) (mem : List ℕ) (f : Frame) (newdata : ℕ) (fit : ListsFit g words)
+module _ (g : Registers) (mem : List ℕ) (f : Frame) (newdata : ℕ) (few : FewFilters g)
     (d : Destination) (so : meaning d ≡ destination g mem f newdata) where
   answer-within : (c : Destination) → d ≡ c → Within g newdata (meaning c)
-  answer-within c e = subst (Within g newdata) (sym so ∙ ap meaning e) (destination-is-within g words mem f newdata fit)
+  answer-within c e = subst (Within g newdata) (sym so ∙ ap meaning e) (destination-is-within g mem f newdata few)
 
   module _ (k : ℕ) (priority : Bool) (m : Matched) (e : d ≡ Fifo k priority m) where
     pub fifo-number : k ≤ 1

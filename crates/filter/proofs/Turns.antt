@@ -6,14 +6,15 @@ use mathlib.Core.Bool.{Bool, true, false}
 use mathlib.Core.List.{List}
 use native.Mathlib.Omega.{arith}
 use lib.ListN.{getD}
-use Rattle.words.specs.Fields.{bits}
 use Rattle.words.specs.Least.{leastFrom}
+use Rattle.words.specs.declared.WordAddress.{WordAddress}
 use Rattle.words.proofs.Lowest.{look-found, look-on, look-done}
+use Rattle.registers.specs.Fields.{filters11, filters11Start, filters29, filters29Start, xidamMask}
 use Rattle.registers.specs.declared.Registers.{Registers}
-use Rattle.registers.specs.declared.WordAddress.{WordAddress}
 use Rattle.filter.specs.Elements.{element11, element29}
 use Rattle.filter.specs.Matching.{matches}
-use Rattle.filter.specs.Search.{listOf, Fits, ListsFit, elementAt, matchesAt, firstMatch}
+use Rattle.filter.specs.Search.{listOf, filterAt, matchesAt, firstMatch}
+use Rattle.filter.specs.Needs.{Fits, ListsFit}
 use Rattle.filter.specs.declared.filters.FilterElement.{FilterElement}
 use Rattle.filter.specs.declared.lists.FilterList.{FilterList}
 
@@ -28,11 +29,11 @@ same-list xtd p q r = cc (address p)
     address : {s t : WordAddress} → s .0 ≡ t .0 → s ≡ t
     address p = ap (λ (a : ℕ). record { 0 = a }) p
 
-module _ (g : Registers) (xtd : Bool) (s : WordAddress) (n m : ℕ) (masked : m ≡ bits 28 0 (g .xidam .word)) where
-  pub list-long : s .0 ≡ bits 15 2 (g .xidfc .word) → n ≡ bits 22 16 (g .xidfc .word) → xtd ≡ true → made xtd s n m ≡ listOf g xtd
+module _ (g : Registers) (xtd : Bool) (s : WordAddress) (n m : ℕ) (masked : m ≡ xidamMask g) where
+  pub list-long : s .0 ≡ filters29Start g → n ≡ filters29 g → xtd ≡ true → made xtd s n m ≡ listOf g xtd
   list-long p q h = same-list xtd (rw h p) (rw h q) masked
 
-  pub list-short : s .0 ≡ bits 15 2 (g .sidfc .word) → n ≡ bits 23 16 (g .sidfc .word) → xtd ≡ false → made xtd s n m ≡ listOf g xtd
+  pub list-short : s .0 ≡ filters11Start g → n ≡ filters11 g → xtd ≡ false → made xtd s n m ≡ listOf g xtd
   list-short p q h = same-list xtd (rw h p) (rw h q) masked
 
 pub ruleset listings = (list-long, list-short)
@@ -42,10 +43,10 @@ list-fits g words xtd l fit listed = subst⁻¹ (λ (k : FilterList). Fits k wor
 
 -- both lists lie in the memory where each does
 pub lists-fit : (g : Registers) (words : ℕ)
-    → bits 23 16 (g .sidfc .word) ≤ words - bits 15 2 (g .sidfc .word) → bits 23 16 (g .sidfc .word) ≤ 128
-    → 2 * bits 22 16 (g .xidfc .word) ≤ words - bits 15 2 (g .xidfc .word) → bits 22 16 (g .xidfc .word) ≤ 64
+    → filters11 g ≤ words - filters11Start g → filters11 g ≤ 128
+    → 2 * filters29 g ≤ words - filters29Start g → filters29 g ≤ 64
     → ListsFit g words
-lists-fit g words room11 most11 room29 most29 = record { lists = each; filters11 = most11; filters29 = most29 }
+lists-fit g words room11 most11 room29 most29 = record { lists = each; few = record { short = most11; long = most29 } }
   where
     each : (xtd : Bool) → Fits (listOf g xtd) words
     each true = record { room = room29 }
@@ -70,17 +71,17 @@ module _ (l : FilterList) (words i : ℕ) (fits : Fits l words) (within : i < l 
   only-word h = omega (arith, words-short h)
 
 module _ (mem : List ℕ) (l : FilterList) (i : ℕ) (e : FilterElement) where
-  pub element-long : l .xtd ≡ true → e ≡ element29 (getD mem (l .start .0 + 2 * i) 0) (getD mem (l .start .0 + 2 * i + 1) 0) → e ≡ elementAt mem l i
-  unfolding elementAt
+  pub element-long : l .xtd ≡ true → e ≡ element29 (getD mem (l .start .0 + 2 * i) 0) (getD mem (l .start .0 + 2 * i + 1) 0) → e ≡ filterAt mem l i
+  unfolding filterAt
   element-long h d = rw h d
 
-  pub element-short : l .xtd ≡ false → e ≡ element11 (getD mem (l .start .0 + i) 0) → e ≡ elementAt mem l i
-  unfolding elementAt
+  pub element-short : l .xtd ≡ false → e ≡ element11 (getD mem (l .start .0 + i) 0) → e ≡ filterAt mem l i
+  unfolding filterAt
   element-short h d = rw h d
 
 pub ruleset elements = (first-word, second-word, only-word, element-long, element-short)
 
-pub matched-at : (mem : List ℕ) (l : FilterList) (id i : ℕ) (e : FilterElement) (r : Bool) → e ≡ elementAt mem l i → r ≡ matches (l .xtd) (l .xidam) e id → r ≡ matchesAt mem l id i
+pub matched-at : (mem : List ℕ) (l : FilterList) (id i : ℕ) (e : FilterElement) (r : Bool) → e ≡ filterAt mem l i → r ≡ matches (l .xtd) (l .xidam) e id → r ≡ matchesAt mem l id i
 matched-at mem l id i e r p q = q ∙ ap (λ (x : FilterElement). matches (l .xtd) (l .xidam) x id) p
 
 -- ---- the search: what it looks for is the lowest of the elements that are left

@@ -9,25 +9,26 @@ use lib.Dec.{eqb}
 use Rattle.words.specs.Fields.{bits}
 use Rattle.words.specs.Bits.{isSet}
 use Rattle.words.proofs.Choices.{pick-first, pick-second}
+use Rattle.registers.specs.Fields.{anfs, anfe, rrfs, rrfe}
 use Rattle.registers.specs.declared.Registers.{Registers}
 use Rattle.frame.specs.declared.Frame.{Frame}
 use Rattle.frame.specs.declared.Matched.the-variants.{Nothing, Filter}
-use Rattle.filter.specs.Search.{listOf, elementAt, firstMatch}
+use Rattle.filter.specs.Search.{listOf, filterAt, firstMatch}
 use Rattle.filter.specs.Destination.{Goes, toFifo, toBuffer, discarded, remoteOut, nonMatching, unmatched, rxBuffer, byAction, bySearch, destination}
 use Rattle.filter.specs.declared.filters.FilterElement.{FilterElement}
 use Rattle.filter.specs.declared.lists.FilterList.{FilterList}
 
-module _ (gfc : ℕ) (xtd : Bool) (b : ℕ) where
-  pub out-long : b ≡ bits 0 0 gfc → xtd ≡ true → eqb b 1 ≡ remoteOut gfc xtd
+module _ (g : Registers) (xtd : Bool) (b : ℕ) where
+  pub out-long : b ≡ rrfe g → xtd ≡ true → eqb b 1 ≡ remoteOut g xtd
   out-long d h = rw (h, d)
 
-  pub out-short : b ≡ bits 1 1 gfc → xtd ≡ false → eqb b 1 ≡ remoteOut gfc xtd
+  pub out-short : b ≡ rrfs g → xtd ≡ false → eqb b 1 ≡ remoteOut g xtd
   out-short d h = rw (h, d)
 
-  pub non-long : b ≡ bits 3 2 gfc → xtd ≡ true → b ≡ nonMatching gfc xtd
+  pub non-long : b ≡ anfe g → xtd ≡ true → b ≡ nonMatching g xtd
   non-long d h = rw h d
 
-  pub non-short : b ≡ bits 5 4 gfc → xtd ≡ false → b ≡ nonMatching gfc xtd
+  pub non-short : b ≡ anfs g → xtd ≡ false → b ≡ nonMatching g xtd
   non-short d h = rw h d
 
 pub ruleset globals = (out-long, out-short, non-long, non-short)
@@ -102,11 +103,11 @@ pub ruleset actions = (act-1, act-2, act-3, act-4, act-5, act-6, act-7)
 
 -- the whole
 module _ (g : Registers) (mem : List ℕ) (f : Frame) (newdata : ℕ) where
-  pub goes-out : (o : Bool) → o ≡ remoteOut (g .gfc .word) (f .xtd) → (f .rtr && o) ≡ true → discarded 0 Nothing ≡ destination g mem f newdata
+  pub goes-out : (o : Bool) → o ≡ remoteOut g (f .xtd) → (f .rtr && o) ≡ true → discarded 0 Nothing ≡ destination g mem f newdata
   unfolding destination
   goes-out o d h = sym (pick-first _ _ (ap (λ (b : Bool). f .rtr && b) (sym d) ∙ h))
 
-  module _ (o : Bool) (d : o ≡ remoteOut (g .gfc .word) (f .xtd)) (stays : (f .rtr && o) ≡ false)
+  module _ (o : Bool) (d : o ≡ remoteOut g (f .xtd)) (stays : (f .rtr && o) ≡ false)
       (l : FilterList) (listed : l ≡ listOf g (f .xtd)) (i : ℕ) (found : i ≡ firstMatch mem l (f .id)) where
     searched : bySearch g mem l newdata i ≡ destination g mem f newdata
     unfolding destination
@@ -115,7 +116,7 @@ module _ (g : Registers) (mem : List ℕ) (f : Frame) (newdata : ℕ) where
         ap₂ (λ (k : FilterList) (j : ℕ). bySearch g mem k newdata j) listed (found ∙ same)
         ∙ sym (pick-second _ _ (ap (λ (b : Bool). f .rtr && b) (sym d) ∙ stays))
 
-    pub goes-by-match : (e : FilterElement) (r : Goes) → i < l .count → e ≡ elementAt mem l i → r ≡ byAction (e .action) (e .id2) (g .buffers) newdata i
+    pub goes-by-match : (e : FilterElement) (r : Goes) → i < l .count → e ≡ filterAt mem l i → r ≡ byAction (e .action) (e .id2) (g .buffers) newdata i
         → r ≡ destination g mem f newdata
     unfolding bySearch
     goes-by-match e r h p q =
@@ -124,11 +125,11 @@ module _ (g : Registers) (mem : List ℕ) (f : Frame) (newdata : ℕ) where
         ∙ sym (pick-first _ _ (lt-ltb i (l .count) h))
         ∙ searched
 
-    pub goes-unmatched : (anf : ℕ) (r : Goes) → l .count ≤ i → anf ≡ nonMatching (g .gfc .word) (f .xtd) → r ≡ unmatched anf → r ≡ destination g mem f newdata
+    pub goes-unmatched : (anf : ℕ) (r : Goes) → l .count ≤ i → anf ≡ nonMatching g (f .xtd) → r ≡ unmatched anf → r ≡ destination g mem f newdata
     unfolding bySearch
     goes-unmatched anf r h p q =
         q
-        ∙ ap unmatched (p ∙ ap (λ (k : FilterList). nonMatching (g .gfc .word) (k .xtd)) (sym listed))
+        ∙ ap unmatched (p ∙ ap (λ (k : FilterList). nonMatching g (k .xtd)) (sym listed))
         ∙ sym (pick-second _ _ (le-ltb i (l .count) h))
         ∙ searched
 

@@ -6,11 +6,12 @@ use lib.Dec.{eqb, ltb, leb}
 use Rattle.words.specs.Choice.{pick}
 use Rattle.words.specs.Fields.{bits}
 use Rattle.words.specs.Bits.{isSet}
+use Rattle.registers.specs.Fields.{anfs, anfe, rrfs, rrfe}
 use Rattle.registers.specs.declared.Registers.{Registers}
 use Rattle.frame.specs.declared.Frame.{Frame}
 use Rattle.frame.specs.declared.Matched.{Matched}
 use Rattle.frame.specs.declared.Matched.the-variants.{Nothing, Filter}
-use Rattle.filter.specs.Search.{listOf, elementAt, firstMatch}
+use Rattle.filter.specs.Search.{listOf, filterAt, firstMatch}
 use Rattle.filter.specs.declared.lists.FilterList.{FilterList}
 use Rattle.filter.specs.declared.Reason.{Reason}
 use Rattle.filter.specs.declared.Reason.the-variants.{Remote, Reject, NoMatch, PriorityOnly, Debug, Misfiled, Locked}
@@ -43,12 +44,12 @@ meaning (Buffer b i) = toBuffer b i
 meaning (Discarded why m) = discarded (reason why) m
 
 -- 1: remote frames of a kind are out where RRFS, or RRFE of 29 bits, is 1
-abbrev pub remoteOut : ℕ → Bool → Bool
-remoteOut gfc xtd = eqb (pick xtd (bits 0 0 gfc) (bits 1 1 gfc)) 1
+abbrev pub remoteOut : Registers → Bool → Bool
+remoteOut g xtd = eqb (pick xtd (rrfe g) (rrfs g)) 1
 
 -- 2: the field for frames that no element matches: ANFS, or ANFE of 29 bits. 0 and 1 name a FIFO, and the others drop the frame
-abbrev pub nonMatching : ℕ → Bool → ℕ
-nonMatching gfc xtd = pick xtd (bits 3 2 gfc) (bits 5 4 gfc)
+abbrev pub nonMatching : Registers → Bool → ℕ
+nonMatching g xtd = pick xtd (anfe g) (anfs g)
 
 unfoldable pub unmatched : ℕ → Goes
 unmatched anf =
@@ -80,11 +81,11 @@ byAction action id2 buffers newdata i =
 unfoldable pub bySearch : Registers → List ℕ → FilterList → ℕ → ℕ → Goes
 bySearch g mem l newdata i =
     pick (ltb i (l .count))
-    (byAction (elementAt mem l i .action) (elementAt mem l i .id2) (g .buffers) newdata i)
-    (unmatched (nonMatching (g .gfc .word) (l .xtd)))
+    (byAction (filterAt mem l i .action) (filterAt mem l i .id2) (g .buffers) newdata i)
+    (unmatched (nonMatching g (l .xtd)))
 
 -- 1 remote frames go out first; 2 the list of the frame's kind is searched; 3 to 5 the first match decides
 unfoldable pub destination : Registers → List ℕ → Frame → ℕ → Goes
 destination g mem f newdata =
-    pick (f .rtr && remoteOut (g .gfc .word) (f .xtd)) (discarded (reason Remote) Nothing)
+    pick (f .rtr && remoteOut g (f .xtd)) (discarded (reason Remote) Nothing)
     (bySearch g mem (listOf g (f .xtd)) newdata (firstMatch mem (listOf g (f .xtd)) (f .id)))

@@ -1,5 +1,6 @@
 pub mod Elements
 pub mod Matching
 pub mod Search
+pub mod Needs
 pub mod Destination
 pub mod Promises

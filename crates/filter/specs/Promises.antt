@@ -1,18 +1,18 @@
 -- What is promised of the search and of where a frame goes (demand 2): statements only.
-use Prim.Native.Nat.{ℕ, _+_, _≤_, _<_, min}
+use Prim.Native.Nat.{ℕ, _≤_, _<_, min}
 use mathlib.Core.Path.{_≡_}
 use mathlib.Core.Bool.{Bool, true, false, _&&_}
 use mathlib.Core.List.{List}
 use mathlib.Core.Logic.{_↔_, _⊎_}
-use lib.ListN.{getD}
 use Rattle.words.specs.Fields.{bits}
 use Rattle.words.specs.Bits.{bit}
+use Rattle.words.specs.Ranges.{SameIn}
 use Rattle.registers.specs.declared.Registers.{Registers}
 use Rattle.frame.specs.declared.Frame.{Frame}
 use Rattle.frame.specs.declared.Matched.{Matched}
 use Rattle.frame.specs.declared.Matched.the-variants.{Nothing, Filter}
 use Rattle.filter.specs.Matching.{seen, matches}
-use Rattle.filter.specs.Search.{listOf, listWords, elementAt, matchesAt, firstMatch, ListsFit}
+use Rattle.filter.specs.Search.{listOf, listRange, filterAt, matchesAt, firstMatch, FewFilters}
 use Rattle.filter.specs.Destination.{Goes, toFifo, toBuffer, discarded, reason, meaning, remoteOut, nonMatching, destination}
 use Rattle.filter.specs.declared.filters.FilterElement.{FilterElement}
 use Rattle.filter.specs.declared.lists.FilterList.{FilterList}
@@ -86,28 +86,26 @@ pub record UnmatchedTells (anf : ℕ) (d : Goes) : Type 0 where
   pub out : 2 ≤ anf → d ≡ discarded (reason NoMatch) Nothing
 
 pub record DestinationTells (g : Registers) (mem : List ℕ) (f : Frame) (newdata : ℕ) : Type 0 where
-  pub remote : (f .rtr && remoteOut (g .gfc .word) (f .xtd)) ≡ true → destination g mem f newdata ≡ discarded (reason Remote) Nothing
-  pub unmatched : (f .rtr && remoteOut (g .gfc .word) (f .xtd)) ≡ false → NoneMatches mem (listOf g (f .xtd)) (f .id)
-      → UnmatchedTells (nonMatching (g .gfc .word) (f .xtd)) (destination g mem f newdata)
-  pub matched : (f .rtr && remoteOut (g .gfc .word) (f .xtd)) ≡ false → (i : ℕ) → FirstIs mem (listOf g (f .xtd)) (f .id) i
-      → ActionTells g newdata (elementAt mem (listOf g (f .xtd)) i) i (destination g mem f newdata)
+  pub remote : (f .rtr && remoteOut g (f .xtd)) ≡ true → destination g mem f newdata ≡ discarded (reason Remote) Nothing
+  pub unmatched : (f .rtr && remoteOut g (f .xtd)) ≡ false → NoneMatches mem (listOf g (f .xtd)) (f .id)
+      → UnmatchedTells (nonMatching g (f .xtd)) (destination g mem f newdata)
+  pub matched : (f .rtr && remoteOut g (f .xtd)) ≡ false → (i : ℕ) → FirstIs mem (listOf g (f .xtd)) (f .id) i
+      → ActionTells g newdata (filterAt mem (listOf g (f .xtd)) i) i (destination g mem f newdata)
 
 abbrev pub DestinationIsByAction : Type 0
 DestinationIsByAction = (g : Registers) (mem : List ℕ) (f : Frame) (newdata : ℕ) → DestinationTells g mem f newdata
 
 -- ---- what is read
 
--- two memories have the same words in a list's section
-abbrev pub SameSection : FilterList → List ℕ → List ℕ → Type 0
-SameSection l m n = (k : ℕ) → l .start .0 ≤ k → k < l .start .0 + listWords l → getD m k 0 ≡ getD n k 0
-
 -- no word outside the list's section is looked at
 abbrev pub SearchReadsItsList : Type 0
-SearchReadsItsList = (l : FilterList) (m n : List ℕ) (id : ℕ) → SameSection l m n → firstMatch m l id ≡ firstMatch n l id
+SearchReadsItsList =
+    (l : FilterList) (m n : List ℕ) (id : ℕ) → SameIn (listRange l) m n → firstMatch m l id ≡ firstMatch n l id
 
 -- nor outside that of the frame's own kind
 abbrev pub DestinationReadsItsList : Type 0
-DestinationReadsItsList = (g : Registers) (m n : List ℕ) (f : Frame) (newdata : ℕ) → SameSection (listOf g (f .xtd)) m n
+DestinationReadsItsList =
+    (g : Registers) (m n : List ℕ) (f : Frame) (newdata : ℕ) → SameIn (listRange (listOf g (f .xtd))) m n
     → destination g m f newdata ≡ destination g n f newdata
 
 -- ---- bounds
@@ -122,7 +120,8 @@ Within g newdata (toBuffer b i) = (b < g .buffers) × (bit newdata b ≡ 0) × (
 Within g newdata (discarded why m) = (why ≤ 6) × IndexBelow 128 m
 
 abbrev pub DestinationIsWithin : Type 0
-DestinationIsWithin = (g : Registers) (words : ℕ) (mem : List ℕ) (f : Frame) (newdata : ℕ) → ListsFit g words → Within g newdata (destination g mem f newdata)
+DestinationIsWithin =
+    (g : Registers) (mem : List ℕ) (f : Frame) (newdata : ℕ) → FewFilters g → Within g newdata (destination g mem f newdata)
 
 -- no two answers of the code mean the same, so no second answer meets the contract
 abbrev pub OneAnswer : Type 0

@@ -1,11 +1,12 @@
 -- The filter list of a kind, and the search in it.
-use Prim.Native.Nat.{ℕ, _+_, _-_, _*_, _≤_}
+use Prim.Native.Nat.{ℕ, _+_, _*_, _≤_}
 use mathlib.Core.Bool.{Bool}
 use mathlib.Core.List.{List}
 use lib.ListN.{getD}
 use Rattle.words.specs.Choice.{pick}
-use Rattle.words.specs.Fields.{bits}
 use Rattle.words.specs.Least.{leastFrom}
+use Rattle.words.specs.Ranges.{Range, range}
+use Rattle.registers.specs.Fields.{filters11, filters11Start, filters29, filters29Start, xidamMask}
 use Rattle.registers.specs.declared.Registers.{Registers}
 use Rattle.filter.specs.Elements.{element11, element29}
 use Rattle.filter.specs.Matching.{matches}
@@ -16,36 +17,35 @@ use Rattle.filter.specs.declared.lists.FilterList.{FilterList}
 abbrev pub listOf : Registers → Bool → FilterList
 listOf g xtd = record {
   xtd = xtd;
-  start = record { 0 = pick xtd (bits 15 2 (g .xidfc .word)) (bits 15 2 (g .sidfc .word)) };
-  count = pick xtd (bits 22 16 (g .xidfc .word)) (bits 23 16 (g .sidfc .word));
-  xidam = bits 28 0 (g .xidam .word);
+  start = record { 0 = pick xtd (filters29Start g) (filters11Start g) };
+  count = pick xtd (filters29 g) (filters11 g);
+  xidam = xidamMask g;
 }
 
 -- how many words a list has: one for an element, two for one of 29 bits
 abbrev pub listWords : FilterList → ℕ
 listWords l = pick (l .xtd) (2 * l .count) (l .count)
 
+-- where they stand
+abbrev pub listRange : FilterList → Range
+listRange l = range (l .start .0) (listWords l)
+
 -- element i
-unfoldable pub elementAt : List ℕ → FilterList → ℕ → FilterElement
-elementAt mem l i =
+unfoldable pub filterAt : List ℕ → FilterList → ℕ → FilterElement
+filterAt mem l i =
     pick (l .xtd)
     (element29 (getD mem (l .start .0 + 2 * i) 0) (getD mem (l .start .0 + 2 * i + 1) 0))
     (element11 (getD mem (l .start .0 + i) 0))
 
 -- element i matches an identifier
 abbrev pub matchesAt : List ℕ → FilterList → ℕ → ℕ → Bool
-matchesAt mem l id i = matches (l .xtd) (l .xidam) (elementAt mem l i) id
+matchesAt mem l id i = matches (l .xtd) (l .xidam) (filterAt mem l i) id
 
 -- the search: the lowest element that matches, or the count where none does
 unfoldable pub firstMatch : List ℕ → FilterList → ℕ → ℕ
 firstMatch mem l id = leastFrom (matchesAt mem l id) 0 (l .count)
 
--- a list lies in a memory of so many words. One of count 0 has no words, wherever it starts
-pub record Fits (l : FilterList) (words : ℕ) : Type 0 where
-  pub room : listWords l ≤ words - l .start .0
-
--- what an accepted layout gives: both lists lie in the memory, and their counts are within their most
-pub record ListsFit (g : Registers) (words : ℕ) : Type 0 where
-  pub lists : (xtd : Bool) → Fits (listOf g xtd) words
-  pub filters11 : bits 23 16 (g .sidfc .word) ≤ 128
-  pub filters29 : bits 22 16 (g .xidfc .word) ≤ 64
+-- both counts are within their most
+pub record FewFilters (g : Registers) : Type 0 where
+  pub short : filters11 g ≤ 128
+  pub long : filters29 g ≤ 64

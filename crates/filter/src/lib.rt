@@ -2,19 +2,19 @@
 pub mod filters;
 pub mod lists;
 
-use crate::lists::element_at;
+use crate::lists::filter_at;
 use crate::lists::first_match;
 use crate::lists::list_of;
 use frame::Frame;
 use frame::Matched;
 use registers::Registers;
-use registers::kinds::Gfc;
 ghost use mathlib.Core.Path.{_≡_};
 ghost use Prim.Native.Nat.{_<_};
 ghost use lib.ListN.{length};
 ghost use Rattle.words.specs.Fields.{bits};
-ghost use Rattle.filter.specs.Search.{ListsFit};
-ghost use Rattle.filter.specs.Destination.{meaning, remoteOut, nonMatching, unmatched, rxBuffer, byAction, destination};
+ghost use Rattle.filter.specs.Needs.{ListsFit};
+ghost use Rattle.filter.specs.Destination.{reason, meaning, remoteOut, nonMatching, unmatched, rxBuffer, byAction};
+ghost use Rattle.filter.specs.Destination.{destination};
 
 // Why a frame is discarded.
 pub enum Reason {
@@ -27,6 +27,23 @@ pub enum Reason {
     Locked,
 }
 
+impl Reason {
+    // The reason's number, in the order in which document 01 lists them.
+    pub fn number(self) -> u32
+        ensures { λ r. ⌜ r ≡ reason self ⌝ }
+    {
+        match self {
+            Reason::Remote => 0,
+            Reason::Reject => 1,
+            Reason::NoMatch => 2,
+            Reason::PriorityOnly => 3,
+            Reason::Debug => 4,
+            Reason::Misfiled => 5,
+            Reason::Locked => 6,
+        }
+    }
+}
+
 // Where a frame goes, with the element that matched it, if one did.
 pub enum Destination {
     // to FIFO 0 or 1, and whether with priority
@@ -37,23 +54,23 @@ pub enum Destination {
 }
 
 // Remote frames of this kind are out: RRFS or RRFE is 1.
-fn remote_out(gfc: Gfc, xtd: bool) -> bool
-    ensures { λ r. ⌜ r ≡ remoteOut (gfc .word) xtd ⌝ }
+fn remote_out(regs: Registers, xtd: bool) -> bool
+    ensures { λ r. ⌜ r ≡ remoteOut regs xtd ⌝ }
 {
     if xtd {
-        return gfc.rrfe() == 1;
+        return regs.gfc.rrfe() == 1;
     }
-    gfc.rrfs() == 1
+    regs.gfc.rrfs() == 1
 }
 
 // What becomes of frames that no filter matches: ANFS or ANFE.
-fn non_matching(gfc: Gfc, xtd: bool) -> u32
-    ensures { λ r. ⌜ r ≡ nonMatching (gfc .word) xtd ⌝ }
+fn non_matching(regs: Registers, xtd: bool) -> u32
+    ensures { λ r. ⌜ r ≡ nonMatching regs xtd ⌝ }
 {
     if xtd {
-        return gfc.anfe();
+        return regs.gfc.anfe();
     }
-    gfc.anfs()
+    regs.gfc.anfs()
 }
 
 // No element matches.
@@ -111,14 +128,14 @@ pub fn destination_of(regs: Registers, mem: &[u32], f: Frame, newdata: u64) -> D
     requires { ⌜ ListsFit regs (length (now mem)) ⌝ }
     ensures { λ r. ⌜ meaning r ≡ destination regs (now (mem .entry)) f newdata ⌝ }
 {
-    if f.rtr & remote_out(regs.gfc, f.xtd) {
+    if f.rtr & remote_out(regs, f.xtd) {
         return Destination::Discarded(Reason::Remote, Matched::Nothing);
     }
     let list = list_of(regs, f.xtd);
     let i = first_match(mem, list, f.id);
     if i < list.count {
-        let e = element_at(mem, list, i);
+        let e = filter_at(mem, list, i);
         return by_action(e.action, e.id2, regs.buffers, newdata, i);
     }
-    unmatched(non_matching(regs.gfc, f.xtd))
+    unmatched(non_matching(regs, f.xtd))
 }

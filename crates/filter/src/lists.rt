@@ -4,11 +4,12 @@ use crate::filters::decode11;
 use crate::filters::decode29;
 use crate::filters::matches;
 use registers::Registers;
-use registers::WordAddress;
+use words::WordAddress;
 ghost use mathlib.Core.Path.{_≡_};
 ghost use Prim.Native.Nat.{_≤_, _<_};
 ghost use lib.ListN.{length};
-ghost use Rattle.filter.specs.Search.{Fits, listOf, elementAt, matchesAt, firstMatch};
+ghost use Rattle.filter.specs.Search.{listOf, filterAt, matchesAt, firstMatch};
+ghost use Rattle.filter.specs.Needs.{Fits};
 
 // A list: of which kind, where it starts, how many elements it has, and what XIDAM lets through.
 pub struct FilterList {
@@ -42,9 +43,9 @@ pub fn list_of(regs: Registers, xtd: bool) -> FilterList
 }
 
 // Element i of a list.
-pub fn element_at(mem: &[u32], list: FilterList, i: u32) -> FilterElement
+pub fn filter_at(mem: &[u32], list: FilterList, i: u32) -> FilterElement
     requires { ⌜ (Fits list (length (now mem))) × (i < list .count) ⌝ }
-    ensures { λ r. ⌜ r ≡ elementAt (now (mem .entry)) list i ⌝ }
+    ensures { λ r. ⌜ r ≡ filterAt (now (mem .entry)) list i ⌝ }
 {
     let start = list.start.0 as usize;
     if list.xtd {
@@ -58,7 +59,7 @@ fn matches_at(mem: &[u32], list: FilterList, id: u32, i: u32) -> bool
     requires { ⌜ (Fits list (length (now mem))) × (i < list .count) ⌝ }
     ensures { λ r. ⌜ r ≡ matchesAt (now (mem .entry)) list id i ⌝ }
 {
-    matches(list.xtd, list.xidam, element_at(mem, list, i), id)
+    matches(list.xtd, list.xidam, filter_at(mem, list, i), id)
 }
 
 // The search: the lowest element that matches, or the count where none does.

@@ -1,4 +1,5 @@
 pub mod Lengths
+pub mod SizeLaws
 pub mod Forms
 pub mod Ranks
 pub mod Order

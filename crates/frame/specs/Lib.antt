@@ -1,4 +1,5 @@
 pub mod Length
+pub mod Sizes
 pub mod Identifier
 pub mod Malformed
 pub mod Rank

@@ -1,4 +1,6 @@
 // A frame: its data length, whether it is malformed, its rank in arbitration, and its form as sent.
+pub mod sizes;
+
 ghost use mathlib.Core.Path.{_≡_};
 ghost use Prim.Native.Nat.{_^_, _≤_, _<_};
 ghost use Rattle.words.specs.Choice.{pick};

@@ -1,3 +1,3 @@
 pub mod Kinds
-pub mod Sizes
+pub mod Fields
 pub mod Given

@@ -1,10 +1,14 @@
 // A type for each register kind: its reset word, its legal bits, the most its count may be, and where its fields stand.
 // A field is `word / AT % SIZE`; `new` puts a word together from its fields.
-use crate::WordAddress;
+use words::WordAddress;
 ghost use mathlib.Core.Path.{_≡_};
-ghost use Prim.Native.Nat.{_+_, _*_, _^_, _<_};
-ghost use Rattle.words.specs.Fields.{bits, onlyNamed};
-ghost use Rattle.registers.specs.Kinds.{sidfc, xidfc, rxfc, rxbc, rxesc, txefc, txbc, txesc, gfc, xidam};
+ghost use Prim.Native.Nat.{_+_};
+ghost use Rattle.words.specs.Fields.{onlyNamed};
+ghost use Rattle.registers.specs.Kinds.{field, put, Holds, sectionStart, sidfc, sidfcCount, xidfc, xidfcCount};
+ghost use Rattle.registers.specs.Kinds.{rxfc, rxfcOverwrite, rxfcWatermark, rxfcCount, rxbc, rxesc, rxescBuffers};
+ghost use Rattle.registers.specs.Kinds.{rxescFifo1, rxescFifo0, txefc, txefcWatermark, txefcCount, txbc};
+ghost use Rattle.registers.specs.Kinds.{txbcQueue, txbcShared, txbcDedicated, txesc, txescSize, gfc, gfcAnfs};
+ghost use Rattle.registers.specs.Kinds.{gfcAnfe, gfcRrfs, gfcRrfe, xidam, idMask};
 
 // 11-bit filters: count 23:16, start 15:2.
 pub struct Sidfc {
@@ -29,8 +33,10 @@ impl Sidfc {
     pub const START_SIZE: u32 = 0x4000;
 
     pub fn new(count: u32, start: WordAddress) -> Self
-        requires { ⌜ (count < 2 ^ 8) × (start .0 < 2 ^ 14) ⌝ }
-        ensures { λ r. ⌜ (r .word ≡ count * 2 ^ 16 + start .0 * 2 ^ 2) × (bits 23 16 (r .word) ≡ count) × (bits 15 2 (r .word) ≡ start .0) ⌝ }
+        requires { ⌜ Holds sidfcCount count × Holds sectionStart (start .0) ⌝ }
+        ensures { λ r. ⌜ (r .word ≡ put sidfcCount count + put sectionStart (start .0))
+            × (field sidfcCount (r .word) ≡ count)
+            × (field sectionStart (r .word) ≡ start .0) ⌝ }
     {
         Self {
             word: count * Self::COUNT_AT + start.0 * Self::START_AT,
@@ -38,13 +44,13 @@ impl Sidfc {
     }
 
     pub fn count(self) -> u32
-        ensures { λ r. ⌜ r ≡ bits 23 16 (self .word) ⌝ }
+        ensures { λ r. ⌜ r ≡ field sidfcCount (self .word) ⌝ }
     {
         self.word / Self::COUNT_AT % Self::COUNT_SIZE
     }
 
     pub fn start(self) -> WordAddress
-        ensures { λ r. ⌜ r .0 ≡ bits 15 2 (self .word) ⌝ }
+        ensures { λ r. ⌜ r .0 ≡ field sectionStart (self .word) ⌝ }
     {
         WordAddress(self.word / Self::START_AT % Self::START_SIZE)
     }
@@ -79,8 +85,10 @@ impl Xidfc {
     pub const START_SIZE: u32 = 0x4000;
 
     pub fn new(count: u32, start: WordAddress) -> Self
-        requires { ⌜ (count < 2 ^ 7) × (start .0 < 2 ^ 14) ⌝ }
-        ensures { λ r. ⌜ (r .word ≡ count * 2 ^ 16 + start .0 * 2 ^ 2) × (bits 22 16 (r .word) ≡ count) × (bits 15 2 (r .word) ≡ start .0) ⌝ }
+        requires { ⌜ Holds xidfcCount count × Holds sectionStart (start .0) ⌝ }
+        ensures { λ r. ⌜ (r .word ≡ put xidfcCount count + put sectionStart (start .0))
+            × (field xidfcCount (r .word) ≡ count)
+            × (field sectionStart (r .word) ≡ start .0) ⌝ }
     {
         Self {
             word: count * Self::COUNT_AT + start.0 * Self::START_AT,
@@ -88,13 +96,13 @@ impl Xidfc {
     }
 
     pub fn count(self) -> u32
-        ensures { λ r. ⌜ r ≡ bits 22 16 (self .word) ⌝ }
+        ensures { λ r. ⌜ r ≡ field xidfcCount (self .word) ⌝ }
     {
         self.word / Self::COUNT_AT % Self::COUNT_SIZE
     }
 
     pub fn start(self) -> WordAddress
-        ensures { λ r. ⌜ r .0 ≡ bits 15 2 (self .word) ⌝ }
+        ensures { λ r. ⌜ r .0 ≡ field sectionStart (self .word) ⌝ }
     {
         WordAddress(self.word / Self::START_AT % Self::START_SIZE)
     }
@@ -135,8 +143,16 @@ impl Rxfc {
     pub const START_SIZE: u32 = 0x4000;
 
     pub fn new(overwrite: u32, watermark: u32, count: u32, start: WordAddress) -> Self
-        requires { ⌜ (overwrite < 2 ^ 1) × (watermark < 2 ^ 7) × (count < 2 ^ 7) × (start .0 < 2 ^ 14) ⌝ }
-        ensures { λ r. ⌜ (r .word ≡ overwrite * 2 ^ 31 + watermark * 2 ^ 24 + count * 2 ^ 16 + start .0 * 2 ^ 2) × (bits 31 31 (r .word) ≡ overwrite) × (bits 30 24 (r .word) ≡ watermark) × (bits 22 16 (r .word) ≡ count) × (bits 15 2 (r .word) ≡ start .0) ⌝ }
+        requires { ⌜ Holds rxfcOverwrite overwrite
+            × Holds rxfcWatermark watermark
+            × Holds rxfcCount count
+            × Holds sectionStart (start .0) ⌝ }
+        ensures { λ r. ⌜ (r .word ≡ put rxfcOverwrite overwrite + put rxfcWatermark watermark
+            + put rxfcCount count + put sectionStart (start .0))
+            × (field rxfcOverwrite (r .word) ≡ overwrite)
+            × (field rxfcWatermark (r .word) ≡ watermark)
+            × (field rxfcCount (r .word) ≡ count)
+            × (field sectionStart (r .word) ≡ start .0) ⌝ }
     {
         Self {
             word: overwrite * Self::OVERWRITE_AT
@@ -147,25 +163,25 @@ impl Rxfc {
     }
 
     pub fn overwrite(self) -> u32
-        ensures { λ r. ⌜ r ≡ bits 31 31 (self .word) ⌝ }
+        ensures { λ r. ⌜ r ≡ field rxfcOverwrite (self .word) ⌝ }
     {
         self.word / Self::OVERWRITE_AT % Self::OVERWRITE_SIZE
     }
 
     pub fn watermark(self) -> u32
-        ensures { λ r. ⌜ r ≡ bits 30 24 (self .word) ⌝ }
+        ensures { λ r. ⌜ r ≡ field rxfcWatermark (self .word) ⌝ }
     {
         self.word / Self::WATERMARK_AT % Self::WATERMARK_SIZE
     }
 
     pub fn count(self) -> u32
-        ensures { λ r. ⌜ r ≡ bits 22 16 (self .word) ⌝ }
+        ensures { λ r. ⌜ r ≡ field rxfcCount (self .word) ⌝ }
     {
         self.word / Self::COUNT_AT % Self::COUNT_SIZE
     }
 
     pub fn start(self) -> WordAddress
-        ensures { λ r. ⌜ r .0 ≡ bits 15 2 (self .word) ⌝ }
+        ensures { λ r. ⌜ r .0 ≡ field sectionStart (self .word) ⌝ }
     {
         WordAddress(self.word / Self::START_AT % Self::START_SIZE)
     }
@@ -194,8 +210,8 @@ impl Rxbc {
     pub const START_SIZE: u32 = 0x4000;
 
     pub fn new(start: WordAddress) -> Self
-        requires { ⌜ start .0 < 2 ^ 14 ⌝ }
-        ensures { λ r. ⌜ (r .word ≡ start .0 * 2 ^ 2) × (bits 15 2 (r .word) ≡ start .0) ⌝ }
+        requires { ⌜ Holds sectionStart (start .0) ⌝ }
+        ensures { λ r. ⌜ (r .word ≡ put sectionStart (start .0)) × (field sectionStart (r .word) ≡ start .0) ⌝ }
     {
         Self {
             word: start.0 * Self::START_AT,
@@ -203,7 +219,7 @@ impl Rxbc {
     }
 
     pub fn start(self) -> WordAddress
-        ensures { λ r. ⌜ r .0 ≡ bits 15 2 (self .word) ⌝ }
+        ensures { λ r. ⌜ r .0 ≡ field sectionStart (self .word) ⌝ }
     {
         WordAddress(self.word / Self::START_AT % Self::START_SIZE)
     }
@@ -238,8 +254,11 @@ impl Rxesc {
     pub const FIFO0_SIZE: u32 = 0x8;
 
     pub fn new(buffers: u32, fifo1: u32, fifo0: u32) -> Self
-        requires { ⌜ (buffers < 2 ^ 3) × (fifo1 < 2 ^ 3) × (fifo0 < 2 ^ 3) ⌝ }
-        ensures { λ r. ⌜ (r .word ≡ buffers * 2 ^ 8 + fifo1 * 2 ^ 4 + fifo0) × (bits 10 8 (r .word) ≡ buffers) × (bits 6 4 (r .word) ≡ fifo1) × (bits 2 0 (r .word) ≡ fifo0) ⌝ }
+        requires { ⌜ Holds rxescBuffers buffers × Holds rxescFifo1 fifo1 × Holds rxescFifo0 fifo0 ⌝ }
+        ensures { λ r. ⌜ (r .word ≡ put rxescBuffers buffers + put rxescFifo1 fifo1 + put rxescFifo0 fifo0)
+            × (field rxescBuffers (r .word) ≡ buffers)
+            × (field rxescFifo1 (r .word) ≡ fifo1)
+            × (field rxescFifo0 (r .word) ≡ fifo0) ⌝ }
     {
         Self {
             word: buffers * Self::BUFFERS_AT + fifo1 * Self::FIFO1_AT + fifo0 * Self::FIFO0_AT,
@@ -247,19 +266,19 @@ impl Rxesc {
     }
 
     pub fn buffers(self) -> u32
-        ensures { λ r. ⌜ r ≡ bits 10 8 (self .word) ⌝ }
+        ensures { λ r. ⌜ r ≡ field rxescBuffers (self .word) ⌝ }
     {
         self.word / Self::BUFFERS_AT % Self::BUFFERS_SIZE
     }
 
     pub fn fifo1(self) -> u32
-        ensures { λ r. ⌜ r ≡ bits 6 4 (self .word) ⌝ }
+        ensures { λ r. ⌜ r ≡ field rxescFifo1 (self .word) ⌝ }
     {
         self.word / Self::FIFO1_AT % Self::FIFO1_SIZE
     }
 
     pub fn fifo0(self) -> u32
-        ensures { λ r. ⌜ r ≡ bits 2 0 (self .word) ⌝ }
+        ensures { λ r. ⌜ r ≡ field rxescFifo0 (self .word) ⌝ }
     {
         self.word / Self::FIFO0_AT % Self::FIFO0_SIZE
     }
@@ -298,8 +317,11 @@ impl Txefc {
     pub const START_SIZE: u32 = 0x4000;
 
     pub fn new(watermark: u32, count: u32, start: WordAddress) -> Self
-        requires { ⌜ (watermark < 2 ^ 6) × (count < 2 ^ 6) × (start .0 < 2 ^ 14) ⌝ }
-        ensures { λ r. ⌜ (r .word ≡ watermark * 2 ^ 24 + count * 2 ^ 16 + start .0 * 2 ^ 2) × (bits 29 24 (r .word) ≡ watermark) × (bits 21 16 (r .word) ≡ count) × (bits 15 2 (r .word) ≡ start .0) ⌝ }
+        requires { ⌜ Holds txefcWatermark watermark × Holds txefcCount count × Holds sectionStart (start .0) ⌝ }
+        ensures { λ r. ⌜ (r .word ≡ put txefcWatermark watermark + put txefcCount count + put sectionStart (start .0))
+            × (field txefcWatermark (r .word) ≡ watermark)
+            × (field txefcCount (r .word) ≡ count)
+            × (field sectionStart (r .word) ≡ start .0) ⌝ }
     {
         Self {
             word: watermark * Self::WATERMARK_AT
@@ -309,19 +331,19 @@ impl Txefc {
     }
 
     pub fn watermark(self) -> u32
-        ensures { λ r. ⌜ r ≡ bits 29 24 (self .word) ⌝ }
+        ensures { λ r. ⌜ r ≡ field txefcWatermark (self .word) ⌝ }
     {
         self.word / Self::WATERMARK_AT % Self::WATERMARK_SIZE
     }
 
     pub fn count(self) -> u32
-        ensures { λ r. ⌜ r ≡ bits 21 16 (self .word) ⌝ }
+        ensures { λ r. ⌜ r ≡ field txefcCount (self .word) ⌝ }
     {
         self.word / Self::COUNT_AT % Self::COUNT_SIZE
     }
 
     pub fn start(self) -> WordAddress
-        ensures { λ r. ⌜ r .0 ≡ bits 15 2 (self .word) ⌝ }
+        ensures { λ r. ⌜ r .0 ≡ field sectionStart (self .word) ⌝ }
     {
         WordAddress(self.word / Self::START_AT % Self::START_SIZE)
     }
@@ -362,8 +384,16 @@ impl Txbc {
     pub const START_SIZE: u32 = 0x4000;
 
     pub fn new(queue: u32, shared: u32, dedicated: u32, start: WordAddress) -> Self
-        requires { ⌜ (queue < 2 ^ 1) × (shared < 2 ^ 6) × (dedicated < 2 ^ 6) × (start .0 < 2 ^ 14) ⌝ }
-        ensures { λ r. ⌜ (r .word ≡ queue * 2 ^ 30 + shared * 2 ^ 24 + dedicated * 2 ^ 16 + start .0 * 2 ^ 2) × (bits 30 30 (r .word) ≡ queue) × (bits 29 24 (r .word) ≡ shared) × (bits 21 16 (r .word) ≡ dedicated) × (bits 15 2 (r .word) ≡ start .0) ⌝ }
+        requires { ⌜ Holds txbcQueue queue
+            × Holds txbcShared shared
+            × Holds txbcDedicated dedicated
+            × Holds sectionStart (start .0) ⌝ }
+        ensures { λ r. ⌜ (r .word ≡ put txbcQueue queue + put txbcShared shared
+            + put txbcDedicated dedicated + put sectionStart (start .0))
+            × (field txbcQueue (r .word) ≡ queue)
+            × (field txbcShared (r .word) ≡ shared)
+            × (field txbcDedicated (r .word) ≡ dedicated)
+            × (field sectionStart (r .word) ≡ start .0) ⌝ }
     {
         Self {
             word: queue * Self::QUEUE_AT
@@ -374,25 +404,25 @@ impl Txbc {
     }
 
     pub fn queue(self) -> u32
-        ensures { λ r. ⌜ r ≡ bits 30 30 (self .word) ⌝ }
+        ensures { λ r. ⌜ r ≡ field txbcQueue (self .word) ⌝ }
     {
         self.word / Self::QUEUE_AT % Self::QUEUE_SIZE
     }
 
     pub fn shared(self) -> u32
-        ensures { λ r. ⌜ r ≡ bits 29 24 (self .word) ⌝ }
+        ensures { λ r. ⌜ r ≡ field txbcShared (self .word) ⌝ }
     {
         self.word / Self::SHARED_AT % Self::SHARED_SIZE
     }
 
     pub fn dedicated(self) -> u32
-        ensures { λ r. ⌜ r ≡ bits 21 16 (self .word) ⌝ }
+        ensures { λ r. ⌜ r ≡ field txbcDedicated (self .word) ⌝ }
     {
         self.word / Self::DEDICATED_AT % Self::DEDICATED_SIZE
     }
 
     pub fn start(self) -> WordAddress
-        ensures { λ r. ⌜ r .0 ≡ bits 15 2 (self .word) ⌝ }
+        ensures { λ r. ⌜ r .0 ≡ field sectionStart (self .word) ⌝ }
     {
         WordAddress(self.word / Self::START_AT % Self::START_SIZE)
     }
@@ -419,8 +449,8 @@ impl Txesc {
     pub const SIZE_SIZE: u32 = 0x8;
 
     pub fn new(size: u32) -> Self
-        requires { ⌜ size < 2 ^ 3 ⌝ }
-        ensures { λ r. ⌜ (r .word ≡ size) × (bits 2 0 (r .word) ≡ size) ⌝ }
+        requires { ⌜ Holds txescSize size ⌝ }
+        ensures { λ r. ⌜ (r .word ≡ put txescSize size) × (field txescSize (r .word) ≡ size) ⌝ }
     {
         Self {
             word: size * Self::SIZE_AT,
@@ -428,7 +458,7 @@ impl Txesc {
     }
 
     pub fn size(self) -> u32
-        ensures { λ r. ⌜ r ≡ bits 2 0 (self .word) ⌝ }
+        ensures { λ r. ⌜ r ≡ field txescSize (self .word) ⌝ }
     {
         self.word / Self::SIZE_AT % Self::SIZE_SIZE
     }
@@ -467,8 +497,12 @@ impl Gfc {
     pub const RRFE_SIZE: u32 = 0x2;
 
     pub fn new(anfs: u32, anfe: u32, rrfs: u32, rrfe: u32) -> Self
-        requires { ⌜ (anfs < 2 ^ 2) × (anfe < 2 ^ 2) × (rrfs < 2 ^ 1) × (rrfe < 2 ^ 1) ⌝ }
-        ensures { λ r. ⌜ (r .word ≡ anfs * 2 ^ 4 + anfe * 2 ^ 2 + rrfs * 2 ^ 1 + rrfe) × (bits 5 4 (r .word) ≡ anfs) × (bits 3 2 (r .word) ≡ anfe) × (bits 1 1 (r .word) ≡ rrfs) × (bits 0 0 (r .word) ≡ rrfe) ⌝ }
+        requires { ⌜ Holds gfcAnfs anfs × Holds gfcAnfe anfe × Holds gfcRrfs rrfs × Holds gfcRrfe rrfe ⌝ }
+        ensures { λ r. ⌜ (r .word ≡ put gfcAnfs anfs + put gfcAnfe anfe + put gfcRrfs rrfs + put gfcRrfe rrfe)
+            × (field gfcAnfs (r .word) ≡ anfs)
+            × (field gfcAnfe (r .word) ≡ anfe)
+            × (field gfcRrfs (r .word) ≡ rrfs)
+            × (field gfcRrfe (r .word) ≡ rrfe) ⌝ }
     {
         Self {
             word: anfs * Self::ANFS_AT
@@ -479,25 +513,25 @@ impl Gfc {
     }
 
     pub fn anfs(self) -> u32
-        ensures { λ r. ⌜ r ≡ bits 5 4 (self .word) ⌝ }
+        ensures { λ r. ⌜ r ≡ field gfcAnfs (self .word) ⌝ }
     {
         self.word / Self::ANFS_AT % Self::ANFS_SIZE
     }
 
     pub fn anfe(self) -> u32
-        ensures { λ r. ⌜ r ≡ bits 3 2 (self .word) ⌝ }
+        ensures { λ r. ⌜ r ≡ field gfcAnfe (self .word) ⌝ }
     {
         self.word / Self::ANFE_AT % Self::ANFE_SIZE
     }
 
     pub fn rrfs(self) -> u32
-        ensures { λ r. ⌜ r ≡ bits 1 1 (self .word) ⌝ }
+        ensures { λ r. ⌜ r ≡ field gfcRrfs (self .word) ⌝ }
     {
         self.word / Self::RRFS_AT % Self::RRFS_SIZE
     }
 
     pub fn rrfe(self) -> u32
-        ensures { λ r. ⌜ r ≡ bits 0 0 (self .word) ⌝ }
+        ensures { λ r. ⌜ r ≡ field gfcRrfe (self .word) ⌝ }
     {
         self.word / Self::RRFE_AT % Self::RRFE_SIZE
     }
@@ -524,8 +558,8 @@ impl Xidam {
     pub const MASK_SIZE: u32 = 0x2000_0000;
 
     pub fn new(mask: u32) -> Self
-        requires { ⌜ mask < 2 ^ 29 ⌝ }
-        ensures { λ r. ⌜ (r .word ≡ mask) × (bits 28 0 (r .word) ≡ mask) ⌝ }
+        requires { ⌜ Holds idMask mask ⌝ }
+        ensures { λ r. ⌜ (r .word ≡ put idMask mask) × (field idMask (r .word) ≡ mask) ⌝ }
     {
         Self {
             word: mask * Self::MASK_AT,
@@ -533,7 +567,7 @@ impl Xidam {
     }
 
     pub fn mask(self) -> u32
-        ensures { λ r. ⌜ r ≡ bits 28 0 (self .word) ⌝ }
+        ensures { λ r. ⌜ r ≡ field idMask (self .word) ⌝ }
     {
         self.word / Self::MASK_AT % Self::MASK_SIZE
     }

@@ -1,6 +1,5 @@
 // The registers that a start is given.
 pub mod kinds;
-pub mod sizes;
 
 use crate::kinds::Gfc;
 use crate::kinds::Rxbc;
@@ -13,10 +12,9 @@ use crate::kinds::Txesc;
 use crate::kinds::Xidam;
 use crate::kinds::Xidfc;
 ghost use mathlib.Core.Path.{_≡_};
+ghost use Prim.Native.Nat.{_<_};
+ghost use Rattle.registers.specs.Fields.{fifoWord, fifoCode, txCount, isQueue};
 ghost use Rattle.registers.specs.Given.{allNamed, resetRegisters};
-
-// A word's place in the memory: no count, no place in a section, no byte address.
-pub struct WordAddress(pub u32);
 
 // The eleven registers, the number of Rx buffers, and whether FD and the rate switch are on.
 pub struct Registers {
@@ -75,5 +73,39 @@ impl Registers {
         let gfc = self.gfc.only_named();
         let xidam = self.xidam.only_named();
         sidfc & xidfc & rxf0c & rxf1c & rxbc & rxesc & txefc & txbc & txesc & gfc & xidam
+    }
+
+    // The register of Rx FIFO 0 or 1.
+    pub fn fifo(self, number: u32) -> Rxfc
+        ensures { λ w. ⌜ w .word ≡ fifoWord self number ⌝ }
+    {
+        if number == 0 {
+            return self.rxf0c;
+        }
+        self.rxf1c
+    }
+
+    // The size code of its elements.
+    pub fn fifo_code(self, number: u32) -> u32
+        ensures { λ c. ⌜ (c ≡ fifoCode self number) × (c < 8) ⌝ }
+    {
+        if number == 0 {
+            return self.rxesc.fifo0();
+        }
+        self.rxesc.fifo1()
+    }
+
+    // How many Tx buffers there are, dedicated and shared.
+    pub fn tx_count(self) -> u32
+        ensures { λ n. ⌜ n ≡ txCount self ⌝ }
+    {
+        self.txbc.dedicated() + self.txbc.shared()
+    }
+
+    // Whether the shared Tx buffers are a queue.
+    pub fn is_queue(self) -> bool
+        ensures { λ b. ⌜ b ≡ isQueue self ⌝ }
+    {
+        self.txbc.queue() == 1
     }
 }

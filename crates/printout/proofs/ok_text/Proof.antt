@@ -15,38 +15,8 @@ Inv-loop sections t₀ i₀ t i = (length sections ≡ 7) × (i ≤ 7) × (conte
 abbrev μ-loop : tie.MeasureT-loop
 μ-loop sections t₀ i₀ t i = 7 - i
 
-empty-requires : tie.Need-empty-requires Inv-loop μ-loop
-empty-requires c κs = search needs
-
-slice-aggregate-push-all : tie.Need-slice-aggregate-push-all Inv-loop μ-loop
-slice-aggregate-push-all c = search needs
-
-push-all-requires : tie.Need-push-all-requires Inv-loop μ-loop
-push-all-requires c κs = search needs
-
 loop-holds : tie.Need-loop-holds Inv-loop μ-loop
 loop-holds c = (search needs, search needs, search (no-rows, needs), search needs)
-
-mul-s : tie.Need-mul-s Inv-loop μ-loop
-mul-s c = search needs
-
-array-copy-out-s : tie.Need-array-copy-out-s Inv-loop μ-loop
-array-copy-out-s c = search needs
-
-cast-push-row : tie.Need-cast-push-row Inv-loop μ-loop
-cast-push-row c = search needs
-
-cast-push-row-2 : tie.Need-cast-push-row-2 Inv-loop μ-loop
-cast-push-row-2 c = search needs
-
-push-row-requires : tie.Need-push-row-requires Inv-loop μ-loop
-push-row-requires c κs = search needs
-
-add-i : tie.Need-add-i Inv-loop μ-loop
-add-i c = search needs
-
-loop-less : tie.Need-loop-less Inv-loop μ-loop
-loop-less c = search needs
 
 loop-again : tie.Need-loop-again Inv-loop μ-loop
 loop-again c = (search needs, search needs, search (one-more-row, needs), search needs)
@@ -60,16 +30,9 @@ ok-text-spec =
     (tie.spec
     Inv-loop
     μ-loop
-    empty-requires
-    slice-aggregate-push-all
-    push-all-requires
+    (λ c κs. search needs) (λ c. search needs) (λ c κs. search needs)
     loop-holds
-    mul-s
-    array-copy-out-s
-    cast-push-row
-    cast-push-row-2
-    push-row-requires
-    add-i
-    loop-less
+    (λ c. search needs) (λ c. search needs) (λ c. search needs) (λ c. search needs) (λ c κs. search needs)
+    (λ c. search needs) (λ c. search needs)
     loop-again
     returns)

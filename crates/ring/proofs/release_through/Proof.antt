@@ -4,12 +4,6 @@ use borrow.Author.Needs.{needs}
 use Rattle.ring.proofs.release_through.Statement.{statement}
 use Rattle.ring.proofs.release_through.Tie as tie
 
-age-of-requires : tie.Need-age-of-requires
-age-of-requires c κs = search (held-inside, needs)
-
-add-n : tie.Need-add-n
-add-n c = search needs
-
 add-in-circle : tie.Need-add-in-circle
 add-in-circle c = omega (arith, held-inside)
 
@@ -19,9 +13,13 @@ in-circle-requires c κs = omega (arith, held-inside)
 sub-t7 : tie.Need-sub-t7
 sub-t7 c = omega (arith, held-age)
 
-returns : tie.Need-returns
-returns c = cc
-
 pub release-through-spec : {M : Type 1} → statement M
 release-through-spec =
-    tie.close (tie.spec age-of-requires add-n add-in-circle in-circle-requires sub-t7 returns)
+    tie.close
+    (tie.spec
+    (λ c κs. search (held-inside, needs))
+    (λ c. search needs)
+    add-in-circle
+    in-circle-requires
+    sub-t7
+    (λ c. cc))

@@ -1,53 +1,13 @@
+-- The four fields add up to word 0, and no sum wraps, since each is a bit or is below the next.
 use Rattle.element.proofs.Packing.{first-word}
 use borrow.Author.Needs.{needs}
 use Rattle.element.proofs.pack.first_word.Statement.{statement}
 use Rattle.element.proofs.pack.first_word.Tie as tie
 
-bit-of-requires : tie.Need-bit-of-requires
-bit-of-requires c κs = search needs
-
-mul-result : tie.Need-mul-result
-mul-result c = search needs
-
-bit-of-requires-2 : tie.Need-bit-of-requires-2
-bit-of-requires-2 c κs = search needs
-
-mul-result-2 : tie.Need-mul-result-2
-mul-result-2 c = search needs
-
-add-result : tie.Need-add-result
-add-result c = search needs
-
-bit-of-requires-3 : tie.Need-bit-of-requires-3
-bit-of-requires-3 c κs = search needs
-
-mul-result-3 : tie.Need-mul-result-3
-mul-result-3 c = search needs
-
-add-result-2 : tie.Need-add-result-2
-add-result-2 c = search needs
-
-id-bits-requires : tie.Need-id-bits-requires
-id-bits-requires c κs = search needs
-
-add-result-3 : tie.Need-add-result-3
-add-result-3 c = search needs
-
-returns : tie.Need-returns
-returns c = search (first-word, needs)
-
 pub first-word-spec : {M : Type 1} → statement M
 first-word-spec =
     tie.close
     (tie.spec
-    bit-of-requires
-    mul-result
-    bit-of-requires-2
-    mul-result-2
-    add-result
-    bit-of-requires-3
-    mul-result-3
-    add-result-2
-    id-bits-requires
-    add-result-3
-    returns)
+    (λ c κs. search needs) (λ c. search needs) (λ c κs. search needs) (λ c. search needs) (λ c. search needs)
+    (λ c κs. search needs) (λ c. search needs) (λ c. search needs) (λ c κs. search needs) (λ c. search needs)
+    (λ c. search (first-word, needs)))

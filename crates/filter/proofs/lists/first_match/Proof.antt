@@ -11,37 +11,15 @@ Inv-loop mem list id count i₀ i = (i ≤ list .count) × (count ≡ list .coun
 abbrev μ-loop : tie.MeasureT-loop
 μ-loop mem list id count i₀ i = count - i
 
-loop-holds : tie.Need-loop-holds Inv-loop μ-loop
-loop-holds c = search (turns, needs)
-
-matches-at-requires : tie.Need-matches-at-requires Inv-loop μ-loop
-matches-at-requires c κs = search needs
-
-returns : tie.Need-returns Inv-loop μ-loop
-returns c = search (turns, needs)
-
-add-i : tie.Need-add-i Inv-loop μ-loop
-add-i c = search needs
-
-loop-less : tie.Need-loop-less Inv-loop μ-loop
-loop-less c = search needs
-
-loop-again : tie.Need-loop-again Inv-loop μ-loop
-loop-again c = search (turns, needs)
-
-returns-2 : tie.Need-returns-2 Inv-loop μ-loop
-returns-2 c = search (turns, needs)
-
 pub first-match-spec : {M : Type 1} → statement M
 first-match-spec =
     tie.close
     (tie.spec
     Inv-loop
     μ-loop
-    loop-holds
-    matches-at-requires
-    returns
-    add-i
-    loop-less
-    loop-again
-    returns-2)
+    (λ c. search (turns, needs))
+    (λ c κs. search needs)
+    (λ c. search (turns, needs))
+    (λ c. search needs) (λ c. search needs)
+    (λ c. search (turns, needs))
+    (λ c. search (turns, needs)))

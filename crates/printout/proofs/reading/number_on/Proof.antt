@@ -13,38 +13,17 @@ Inv-loop input i at n₀ k₀ n k = (length input ≡ 108) × (k ≤ 8) × (n �
 abbrev μ-loop : tie.MeasureT-loop
 μ-loop input i at n₀ k₀ n k = 8 - k
 
-mul-at : tie.Need-mul-at Inv-loop μ-loop
-mul-at c = search needs
-
 loop-holds : tie.Need-loop-holds Inv-loop μ-loop
 loop-holds c = (search (read-length, needs), search needs, search (number-none, needs))
 
 mul-n : tie.Need-mul-n Inv-loop μ-loop
 mul-n c = record { fits = search (shifted-fits, needs) }
 
-add-digit-of : tie.Need-add-digit-of Inv-loop μ-loop
-add-digit-of c = search needs
-
-shared-slice-read-digit-of : tie.Need-shared-slice-read-digit-of Inv-loop μ-loop
-shared-slice-read-digit-of c = search needs
-
-digit-of-requires : tie.Need-digit-of-requires Inv-loop μ-loop
-digit-of-requires c κs = search needs
-
 add-n : tie.Need-add-n Inv-loop μ-loop
 add-n c = record { fits = search (number-fits, needs) }
 
-add-k : tie.Need-add-k Inv-loop μ-loop
-add-k c = search needs
-
-loop-less : tie.Need-loop-less Inv-loop μ-loop
-loop-less c = search needs
-
 loop-again : tie.Need-loop-again Inv-loop μ-loop
 loop-again c = (search needs, search needs, search (number-more, needs))
-
-returns : tie.Need-returns Inv-loop μ-loop
-returns c = search (number-done, needs)
 
 pub number-on-spec : {M : Type 1} → statement M
 number-on-spec =
@@ -52,14 +31,11 @@ number-on-spec =
     (tie.spec
     Inv-loop
     μ-loop
-    mul-at
+    (λ c. search needs)
     loop-holds
     mul-n
-    add-digit-of
-    shared-slice-read-digit-of
-    digit-of-requires
+    (λ c. search needs) (λ c. search needs) (λ c κs. search needs)
     add-n
-    add-k
-    loop-less
+    (λ c. search needs) (λ c. search needs)
     loop-again
-    returns)
+    (λ c. search (number-done, needs)))

@@ -1,3 +1,4 @@
+-- After k turns the first k bytes of the words stand at the front of the output, and it is as long as before.
 use Prim.Native.Nat.{_≤_, _-_}
 use mathlib.Core.Path.{_≡_, refl}
 use lib.ListN.{length, length-set}
@@ -9,44 +10,16 @@ use Rattle.words.proofs.bytes.load.Statement.{statement}
 use Rattle.words.proofs.bytes.load.Tie as tie
 
 abbrev Inv-loop : tie.InvT-loop
-Inv-loop mem at n out₀ k₀ out k = (k ≤ n) × (out ≡ splice out₀ 0 (run (byteIn mem at) 0 k)) × (length out ≡ length out₀)
+Inv-loop mem n out₀ start k₀ out k =
+    (k ≤ n) × (out ≡ splice out₀ 0 (run (byteIn mem start) 0 k)) × (length out ≡ length out₀)
 
 abbrev μ-loop : tie.MeasureT-loop
-μ-loop mem at n out₀ k₀ out k = n - k
-
-loop-holds : tie.Need-loop-holds Inv-loop μ-loop
-loop-holds c = (search needs, run-none _ _ _, refl)
-
-add-word : tie.Need-add-word Inv-loop μ-loop
-add-word c = search needs
-
-mul-word : tie.Need-mul-word Inv-loop μ-loop
-mul-word c = search needs
-
-shared-slice-read-word : tie.Need-shared-slice-read-word Inv-loop μ-loop
-shared-slice-read-word c = search needs
-
-byte-of-requires : tie.Need-byte-of-requires Inv-loop μ-loop
-byte-of-requires c κs = search needs
-
-slice-write-out : tie.Need-slice-write-out Inv-loop μ-loop
-slice-write-out c = search needs
-
-add-k : tie.Need-add-k Inv-loop μ-loop
-add-k c = search needs
-
-loop-less : tie.Need-loop-less Inv-loop μ-loop
-loop-less c = search needs
+μ-loop mem n out₀ start k₀ out k = n - k
 
 loop-again : tie.Need-loop-again Inv-loop μ-loop
 unfolding byteIn
-loop-again c = (search needs, search (front-turn, needs), simp length-set (c .before .before .before .loop .inv .2))
-
-same-length : tie.Need-same-length Inv-loop μ-loop
-same-length c = search needs
-
-returns : tie.Need-returns Inv-loop μ-loop
-returns c = search (run-done, needs)
+loop-again c =
+    (search needs, search (front-turn, needs), simp length-set (c .before .before .before .loop .inv .2))
 
 pub load-spec : {M : Type 1} → statement M
 load-spec =
@@ -54,14 +27,10 @@ load-spec =
     (tie.spec
     Inv-loop
     μ-loop
-    loop-holds
-    add-word
-    mul-word
-    shared-slice-read-word
-    byte-of-requires
-    slice-write-out
-    add-k
-    loop-less
+    (λ c. search needs)
+    (λ c. (search needs, run-none _ _ _, refl))
+    (λ c. search needs) (λ c. search needs) (λ c. search needs) (λ c κs. search needs) (λ c. search needs)
+    (λ c. search needs) (λ c. search needs)
     loop-again
-    same-length
-    returns)
+    (λ c. search needs)
+    (λ c. search (run-done, needs)))

@@ -1,3 +1,4 @@
+-- After k turns the first k words of the data stand in the memory, and it is as long as before.
 use Prim.Native.Nat.{_≤_, _-_}
 use mathlib.Core.Path.{_≡_, refl}
 use lib.ListN.{length, length-set}
@@ -9,40 +10,11 @@ use Rattle.words.proofs.bytes.store.Statement.{statement}
 use Rattle.words.proofs.bytes.store.Tie as tie
 
 abbrev Inv-loop : tie.InvT-loop
-Inv-loop mem₀ at n bytes k₀ mem k = (k ≤ n) × (mem ≡ splice mem₀ at (run (wordOf bytes) 0 k)) × (length mem ≡ length mem₀)
+Inv-loop mem₀ n bytes start k₀ mem k =
+    (k ≤ n) × (mem ≡ splice mem₀ start (run (wordOf bytes) 0 k)) × (length mem ≡ length mem₀)
 
 abbrev μ-loop : tie.MeasureT-loop
-μ-loop mem₀ at n bytes k₀ mem k = n - k
-
-loop-holds : tie.Need-loop-holds Inv-loop μ-loop
-loop-holds c = (search needs, run-none _ _ _, refl)
-
-word-of-requires : tie.Need-word-of-requires Inv-loop μ-loop
-word-of-requires c κs = search needs
-
-add-mem : tie.Need-add-mem Inv-loop μ-loop
-add-mem c = search needs
-
-mul-mem : tie.Need-mul-mem Inv-loop μ-loop
-mul-mem c = search needs
-
-slice-write-mem : tie.Need-slice-write-mem Inv-loop μ-loop
-slice-write-mem c = search needs
-
-add-k : tie.Need-add-k Inv-loop μ-loop
-add-k c = search needs
-
-loop-less : tie.Need-loop-less Inv-loop μ-loop
-loop-less c = search needs
-
-loop-again : tie.Need-loop-again Inv-loop μ-loop
-loop-again c = (search needs, search (run-turn, needs), simp length-set (c .before .before .loop .inv .2))
-
-same-length : tie.Need-same-length Inv-loop μ-loop
-same-length c = search needs
-
-returns : tie.Need-returns Inv-loop μ-loop
-returns c = search (run-done, needs)
+μ-loop mem₀ n bytes start k₀ mem k = n - k
 
 pub store-spec : {M : Type 1} → statement M
 store-spec =
@@ -50,13 +22,10 @@ store-spec =
     (tie.spec
     Inv-loop
     μ-loop
-    loop-holds
-    word-of-requires
-    add-mem
-    mul-mem
-    slice-write-mem
-    add-k
-    loop-less
-    loop-again
-    same-length
-    returns)
+    (λ c. search needs)
+    (λ c. (search needs, run-none _ _ _, refl))
+    (λ c κs. search needs) (λ c. search needs) (λ c. search needs) (λ c. search needs) (λ c. search needs)
+    (λ c. search needs)
+    (λ c. (search needs, search (run-turn, needs), simp length-set (c .before .before .loop .inv .2)))
+    (λ c. search needs)
+    (λ c. search (run-done, needs)))

@@ -1,4 +1,5 @@
-use Rattle.printout.proofs.Pushed.{digit-pushed, digit-counted, digits-pushed, digits-counted, digits-few, digits-leave-one}
+use Rattle.printout.proofs.Pushed.{digit-pushed, digit-counted, digits-pushed, digits-counted, digits-few}
+use Rattle.printout.proofs.Pushed.{digits-leave-one}
 use borrow.Author.Needs.{needs}
 use Prim.Native.Nat.{ℕ, _<_}
 use borrow.Fn.Kinds.{In}
@@ -21,30 +22,6 @@ abbrev push-number-below : ℕ → In 0 push-number-kinds.ps
 push-number-below t =
     and 0 push-number-kinds.ps (falls 0 push-number-kinds.ps _<_ μ-push-number t) push-number.Pre
 
-push-number-cast-digit : (t : ℕ) → push-number-lts.Need-cast-digit (
-  push-reads.Asked,
-  push-reads.Learnt,
-  push-number-below t,
-  push-number.Post,
-) (push-number-at t) push-number.Post
-push-number-cast-digit t c = search needs
-
-push-number-add-digit : (t : ℕ) → push-number-lts.Need-add-digit (
-  push-reads.Asked,
-  push-reads.Learnt,
-  push-number-below t,
-  push-number.Post,
-) (push-number-at t) push-number.Post
-push-number-add-digit t c = search needs
-
-push-number-push-requires : (t : ℕ) → push-number-lts.Need-push-requires (
-  push-reads.Asked,
-  push-reads.Learnt,
-  push-number-below t,
-  push-number.Post,
-) (push-number-at t) push-number.Post
-push-number-push-requires t c κs = search needs
-
 push-number-returns : (t : ℕ) → push-number-lts.Need-returns (
   push-reads.Asked,
   push-reads.Learnt,
@@ -52,22 +29,6 @@ push-number-returns : (t : ℕ) → push-number-lts.Need-returns (
   push-number.Post,
 ) (push-number-at t) push-number.Post
 push-number-returns t c = (search (digit-pushed, needs), search (digit-counted, needs), search needs)
-
-push-number-push-number-requires : (t : ℕ) → push-number-lts.Need-push-number-requires (
-  push-reads.Asked,
-  push-reads.Learnt,
-  push-number-below t,
-  push-number.Post,
-) (push-number-at t) push-number.Post
-push-number-push-number-requires t c κs = search needs
-
-push-number-push-requires-2 : (t : ℕ) → push-number-lts.Need-push-requires-2 (
-  push-reads.Asked,
-  push-reads.Learnt,
-  push-number-below t,
-  push-number.Post,
-) (push-number-at t) push-number.Post
-push-number-push-requires-2 t c κs = search (digits-leave-one, needs)
 
 push-number-returns-2 : (t : ℕ) → push-number-lts.Need-returns-2 (
   push-reads.Asked,
@@ -86,10 +47,10 @@ pub +push-number-spec : {M : Type 1} → statement M
 )
     (push-number-at t)
     push-number.Post
-    (push-number-cast-digit t)
-    (push-number-add-digit t)
-    (push-number-push-requires t)
+    (λ c. search needs)
+    (λ c. search needs)
+    (λ c κs. search needs)
     (push-number-returns t)
-    (push-number-push-number-requires t)
-    (push-number-push-requires-2 t)
+    (λ c κs. search needs)
+    (λ c κs. search (digits-leave-one, needs))
     (push-number-returns-2 t)
