@@ -9,7 +9,7 @@ use lib.Dec.{ltb}
 use lib.ListN.{length, getD}
 use lib.Seq.{getD-append-add}
 use Rattle.words.specs.Choice.{pick}
-use Rattle.words.specs.Runs.{run, splice}
+use Rattle.words.specs.Runs.{run}
 use Rattle.words.specs.Bytes.{byteOf, wordOf, byteIn}
 use Rattle.words.proofs.Runs.{getD-run}
 use Rattle.words.proofs.Ranges.{splice-only}
