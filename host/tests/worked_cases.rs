@@ -1,248 +1,240 @@
-//! The worked cases beside the model: the script of the proved program, run with the model, prints the same lines.
+//! The worked cases of `tests/worked_cases`, run over the library and over the model: both print what is expected.
+//! docs/CALLS.md says what the lines of a case mean.
 
-use cuongphemi_host::model::{self, *};
+use cuongphemi_host::boundary::*;
+use cuongphemi_host::library::Library;
+use cuongphemi_host::model::{data_length, MEMORY_WORDS};
 use std::fmt::Write;
 use std::path::PathBuf;
 
+/// What stands in a lent output before the call.
+const UNWRITTEN: u8 = 0xEE;
+
+type Answer = [u32; ANSWER_WORDS];
+type Frame = [u32; FRAME_WORDS];
+
 /// What a case runs on. Every case begins with a memory of zeros and without a start.
-struct Bench {
-    state: State,
-    record: Record,
-    memory: Vec<u32>,
+struct Bench<'a> {
+    calls: &'a dyn Calls,
+    state: [u32; STATE_WORDS],
+    status: [u32; STATUS_WORDS],
+    memory: [u32; MEMORY_WORDS],
 }
 
-impl Bench {
-    fn unstarted() -> Bench {
-        Bench { state: State::never_started(), record: Record::default(), memory: vec![0; MEMORY_WORDS] }
+impl<'a> Bench<'a> {
+    fn unstarted(calls: &'a dyn Calls) -> Bench<'a> {
+        let mut state = [0; STATE_WORDS];
+        assert_eq!(calls.never_started(&mut state), 0);
+        Bench { calls, state, status: [0; STATUS_WORDS], memory: [0; MEMORY_WORDS] }
     }
 
     /// One line of a case: a word and its hexadecimal numbers. Answers what is printed after the arrow.
     fn run(&mut self, line: &str) -> String {
         let mut parts = line.split(' ');
-        let word = parts.next().unwrap();
-        let mut a: Vec<u32> = parts.map(|digits| u32::from_str_radix(digits, 16).unwrap()).collect();
-        a.resize(16, 0);
-        let (state, record, memory) = (&mut self.state, &mut self.record, &mut self.memory[..]);
-        match word {
-            "start" => told(model::start(state, record, registers(&a), memory.len()), accepted, start_refused),
-            "receive" => {
-                let frame = frame(a[0], a[1], a[2]);
-                let data = data(a[4], data_length(frame.rtr, frame.fdf, frame.dlc));
-                told(model::receive(state, record, memory, &frame, &data, a[3] as u16), received, refused)
+        let word = parts.next().unwrap_or_default();
+        let number = |digits| u32::from_str_radix(digits, 16).unwrap_or_else(|wrong| panic!("{line}: {wrong}"));
+        let numbers: Vec<u32> = parts.map(number).collect();
+        let Bench { calls, state, status, memory } = self;
+        let answer = &mut [0; ANSWER_WORDS];
+        match (word, &numbers[..]) {
+            ("start", registers) => {
+                let number = calls.start(state, status, memory, registers, answer);
+                start_text(number, answer)
+            }
+            ("receive", &[form, id, dlc, time, first]) => {
+                let frame = frame(form, id, dlc);
+                let data = frame_data(&frame, first);
+                let number = calls.receive(state, status, memory, &frame, &data, time as u16, answer);
+                told(number, || receive_text(answer))
             }
             // A frame whose data have a length of their own.
-            "damaged" => {
-                let frame = frame(a[0], a[1], a[2]);
-                told(
-                    model::receive(state, record, memory, &frame, &data(a[4], a[5]), a[3] as u16),
-                    received,
-                    refused,
-                )
+            ("damaged", &[form, id, dlc, time, first, length]) => {
+                let frame = frame(form, id, dlc);
+                let data = data(first, length);
+                let number = calls.receive(state, status, memory, &frame, &data, time as u16, answer);
+                told(number, || receive_text(answer))
             }
-            "read" => {
-                let mut output = vec![0; a[2] as usize];
-                let answer = model::read_fifo(state, record, memory, a[0], a[1], &mut output);
-                told(answer, |read| read_text(&read, &output), refused)
+            ("read", &[fifo, place, length]) => {
+                let mut output = vec![UNWRITTEN; length as usize];
+                let number = calls.read_fifo(state, status, memory, fifo, place, &mut output, answer);
+                told(number, || read_text(answer, &output))
             }
-            "acknowledge" => told(model::acknowledge_fifo(state, record, memory, a[0], a[1]), done, refused),
-            "buffer" => {
-                let mut output = vec![0; a[1] as usize];
-                let answer = model::read_rx_buffer(state, record, memory, a[0], &mut output);
-                told(answer, |read| read_text(&read, &output), refused)
+            ("acknowledge", &[fifo, place]) => {
+                told(calls.acknowledge_fifo(state, status, memory, fifo, place), done)
             }
-            "release" => told(model::release_rx_buffer(state, record, memory, a[0]), done, refused),
-            "request" => {
-                let frame = frame(a[1], a[2], a[3]);
-                let data = data(a[4], data_length(frame.rtr, frame.fdf, frame.dlc));
-                let (marker, wish) = (a[4] as u8, a[5] == 1);
-                let answer = model::request_dedicated(state, record, memory, a[0], &frame, &data, marker, wish);
-                told(answer, |buffer| format!(" buffer {buffer}"), refused)
+            ("buffer", &[buffer, length]) => {
+                let mut output = vec![UNWRITTEN; length as usize];
+                let number = calls.read_buffer(state, status, memory, buffer, &mut output, answer);
+                told(number, || read_text(answer, &output))
             }
-            "share" => {
-                let frame = frame(a[0], a[1], a[2]);
-                let data = data(a[3], data_length(frame.rtr, frame.fdf, frame.dlc));
-                let answer = model::request_shared(state, record, memory, &frame, &data, a[3] as u8, a[4] == 1);
-                told(answer, |buffer| format!(" buffer {buffer}"), refused)
+            ("release", &[buffer]) => told(calls.release_buffer(state, status, memory, buffer), done),
+            ("request", &[buffer, form, id, dlc, marker, wish]) => {
+                let frame = frame(form, id, dlc);
+                let data = frame_data(&frame, marker);
+                let marker = marker as u8;
+                let number =
+                    calls.request_dedicated(state, status, memory, buffer, &frame, &data, marker, wish, answer);
+                told(number, || request_text(answer))
             }
-            "cancel" => told(model::cancel(state, record, memory, a[0]), done, refused),
-            "choice" => {
-                let mut output = vec![0; a[1] as usize];
-                let answer = model::choice(state, record, memory, a[0] == 1, &mut output);
-                told(answer, |choice| choice_text(choice, &output), refused)
+            ("share", &[form, id, dlc, marker, wish]) => {
+                let frame = frame(form, id, dlc);
+                let data = frame_data(&frame, marker);
+                let marker = marker as u8;
+                let number = calls.request_shared(state, status, memory, &frame, &data, marker, wish, answer);
+                told(number, || request_text(answer))
             }
-            "report" => {
-                told(model::report_sent(state, record, memory, a[0], a[1] == 1, a[2] as u16), done, refused)
+            ("cancel", &[buffer]) => told(calls.cancel(state, status, memory, buffer), done),
+            ("choice", &[passive, length]) => {
+                let mut output = vec![UNWRITTEN; length as usize];
+                let number = calls.ask_choice(state, status, memory, passive, &mut output, answer);
+                told(number, || choice_text(answer, &output))
             }
-            "event" => told(model::read_event(state, record, memory, a[0]), event_text, refused),
-            "settle" => told(model::acknowledge_event(state, record, memory, a[0]), done, refused),
-            "clear" => told(model::clear_flags(state, record, memory, a[0]), done, refused),
-            "status" => told(model::status(state, record, memory), status_text, refused),
+            ("report", &[buffer, passive, time]) => {
+                told(calls.report_sent(state, status, memory, buffer, passive, time as u16), done)
+            }
+            ("event", &[place]) => {
+                let number = calls.read_event(state, status, memory, place, answer);
+                told(number, || event_text(answer))
+            }
+            ("settle", &[place]) => told(calls.acknowledge_event(state, status, memory, place), done),
+            ("clear", &[mask]) => told(calls.clear_flags(state, status, memory, mask), done),
+            ("status", []) => {
+                let number = calls.status(state, status, memory, answer);
+                told(number, || status_text(answer))
+            }
             // Beside the calls: words and record set by hand, four words, and what no status tells.
-            "word" => {
-                memory[a[0] as usize] = a[1];
+            ("word", &[at, word]) => {
+                memory[at as usize] = word;
                 String::new()
             }
-            "record" => {
-                *record = Record { flags: a[0], priority: a[1] };
+            ("record", &[flags, priority]) => {
+                *status = [flags, priority];
                 String::new()
             }
-            "show" => (0..4).map(|k| format!(" 0x{:08x}", memory[a[0] as usize + k])).collect(),
-            "look" => format!(
-                " flags 0x{:x} priority 0x{:x} sent 0x{:x} cancelled 0x{:x} newdata 0x{:x} memory {}",
-                record.flags,
-                record.priority,
-                state.sent,
-                state.cancelled,
-                state.new_data,
-                checksum(memory)
-            ),
-            _ => panic!("no such word: {line}"),
+            ("show", &[at]) => memory[at as usize..][..4].iter().map(|word| format!(" 0x{word:08x}")).collect(),
+            ("look", []) => look_text(state, status, memory),
+            _ => panic!("no such line: {line}"),
         }
     }
 }
 
-fn registers(a: &[u32]) -> Registers {
-    Registers {
-        sidfc: a[0],
-        xidfc: a[1],
-        rxf0c: a[2],
-        rxf1c: a[3],
-        rxbc: a[4],
-        rxesc: a[5],
-        txefc: a[6],
-        txbc: a[7],
-        txesc: a[8],
-        gfc: a[9],
-        xidam: a[10],
-        rx_buffers: a[11],
-        fd_on: a[12] == 1,
-        rate_switch_on: a[13] == 1,
-    }
-}
-
-/// A frame by its form: XTD in bit 4, then RTR, FDF, BRS and ESI in bit 0.
+/// A frame's words by its form: XTD in bit 4, then RTR, FDF, BRS and ESI in bit 0.
 fn frame(form: u32, id: u32, dlc: u32) -> Frame {
-    let on = |at: u32| form >> at & 1 == 1;
-    Frame { id, xtd: on(4), rtr: on(3), fdf: on(2), brs: on(1), esi: on(0), dlc }
+    let bit = |at: u32| form >> at & 1;
+    [id, bit(4), bit(3), bit(2), bit(1), bit(0), dlc]
 }
 
-/// The data of a frame: numbers from a first one on, which the script takes modulo 64.
+/// The data of a frame: as many as its DLC says.
+fn frame_data(frame: &Frame, first: u32) -> Vec<u8> {
+    let [_, _, rtr, fdf, _, _, dlc] = *frame;
+    data(first, data_length(rtr == 1, fdf == 1, dlc))
+}
+
+/// So many numbers from a first one on, which is taken modulo 64.
 fn data(first: u32, length: u32) -> Vec<u8> {
     let first = first % 64;
     (first..first + length).map(|number| number as u8).collect()
 }
 
-/// All words of the memory in one number.
-fn checksum(memory: &[u32]) -> u32 {
-    memory.iter().fold(0, |sum, word| (sum * 31 + word % 65521) % 65521)
-}
+// ------------------------------------------------------------------------------------------------------
+// What is printed of an answer
+// ------------------------------------------------------------------------------------------------------
 
-fn told<T, E>(
-    answer: Result<T, E>,
-    accepted: impl FnOnce(T) -> String,
-    refused: impl FnOnce(E) -> String,
-) -> String {
-    match answer {
-        Ok(value) => accepted(value),
-        Err(refusal) => refused(refusal),
+fn told(number: u32, accepted: impl FnOnce() -> String) -> String {
+    match number {
+        0 => accepted(),
+        _ => format!(" refused {number}"),
     }
 }
 
-fn refused(number: u32) -> String {
-    format!(" refused {number}")
-}
-
-fn start_refused(no: StartRefusal) -> String {
-    format!(" refused {} {} {}", no.number, no.first, no.second)
-}
-
-fn accepted(layout: [Section; 7]) -> String {
-    let sections: String = layout.iter().map(|section| format!(" {} {}", section.start, section.words)).collect();
-    format!(" accepted{sections}")
-}
-
-fn done(_: ()) -> String {
+fn done() -> String {
     " done".to_string()
 }
 
-fn received(answer: Received) -> String {
-    let outcome = match answer.outcome {
-        Outcome::Stored { fifo, place } => format!("stored {fifo} {place}"),
-        Outcome::StoredBuffer { buffer } => format!("buffer {buffer}"),
-        Outcome::Lost { fifo } => format!("lost {fifo}"),
-        Outcome::Discarded { reason } => format!("discarded {reason}"),
+/// The sections, or the refusal and the two that it names.
+fn start_text(number: u32, answer: &Answer) -> String {
+    let [first, second, sections @ ..] = answer;
+    match number {
+        0 => sections.iter().fold(" accepted".to_string(), |text, word| format!("{text} {word}")),
+        _ => format!(" refused {number} {first} {second}"),
+    }
+}
+
+fn receive_text(answer: &Answer) -> String {
+    let [kind, what, place, filter, ..] = *answer;
+    let outcome = match kind {
+        1 => format!("stored {what} {place}"),
+        2 => format!("buffer {what}"),
+        3 => format!("lost {what}"),
+        4 => format!("discarded {what}"),
+        _ => format!("kind {kind}"),
     };
-    let index = answer.index.map_or("none".to_string(), |index| index.to_string());
+    let index = filter.checked_sub(1).map_or("none".to_string(), |index| index.to_string());
     format!(" {outcome} index {index}")
 }
 
-fn frame_text(f: &Frame) -> String {
-    let bit = |on: bool| u32::from(on);
-    format!(
-        " id 0x{:x} xtd {} rtr {} fdf {} brs {} esi {} dlc {}",
-        f.id,
-        bit(f.xtd),
-        bit(f.rtr),
-        bit(f.fdf),
-        bit(f.brs),
-        bit(f.esi),
-        f.dlc
-    )
+/// The seven words of a frame from a place of the answer on.
+fn frame_text(answer: &Answer, at: usize) -> String {
+    let w = &answer[at..at + FRAME_WORDS];
+    format!(" id 0x{:x} xtd {} rtr {} fdf {} brs {} esi {} dlc {}", w[0], w[1], w[2], w[3], w[4], w[5], w[6])
 }
 
 fn bytes_text(output: &[u8], count: u32) -> String {
-    let digits: String = output[..count as usize].iter().map(|byte| format!("{byte:02x}")).collect();
+    let digits: String = output.iter().take(count as usize).map(|byte| format!("{byte:02x}")).collect();
     format!(" bytes {count} {digits}")
 }
 
-fn read_text(read: &Read, output: &[u8]) -> String {
-    let h = &read.header;
-    let frame = Frame { id: h.id, xtd: h.xtd, rtr: h.rtr, fdf: h.fdf, brs: h.brs, esi: h.esi, dlc: h.dlc };
-    format!(
-        " read{} anmf {} index {} time {}{}",
-        frame_text(&frame),
-        u32::from(h.anmf),
-        h.index,
-        h.timestamp,
-        bytes_text(output, read.bytes)
-    )
+fn read_text(answer: &Answer, output: &[u8]) -> String {
+    let (time, filter, count) = (answer[7], answer[8], answer[9]);
+    let (anmf, index) = filter.checked_sub(1).map_or((1, 0), |index| (0, index));
+    let bytes = bytes_text(output, count);
+    format!(" read{} anmf {anmf} index {index} time {time}{bytes}", frame_text(answer, 0))
 }
 
-fn choice_text(choice: Option<Choice>, output: &[u8]) -> String {
-    let Some(choice) = choice else {
+fn request_text(answer: &Answer) -> String {
+    format!(" buffer {}", answer[0])
+}
+
+fn choice_text(answer: &Answer, output: &[u8]) -> String {
+    let [buffer, marker, wish, ..] = *answer;
+    if buffer == NO_BUFFER {
         return " none".to_string();
-    };
+    }
+    let bytes = bytes_text(output, answer[10]);
+    format!(" buffer {buffer} marker {marker} wish {wish}{}{bytes}", frame_text(answer, 3))
+}
+
+fn event_text(answer: &Answer) -> String {
+    format!(" read{} marker {} type {} time {}", frame_text(answer, 0), answer[7], answer[8], answer[9])
+}
+
+fn status_text(answer: &Answer) -> String {
+    let rings = ["fifo0", "fifo1", "events", "shared"].iter().zip(answer.chunks(3));
+    let rings: String = rings.map(|(name, w)| format!(" {name} {} {} {}", w[0], w[1], w[2])).collect();
+    format!("{rings} pending {}", answer[12])
+}
+
+/// The record, the bits of the buffers that no status tells, and a checksum of the memory.
+fn look_text(state: &[u32], status: &[u32], memory: &[u32]) -> String {
+    let state = unpack_state(state).expect("FD on and rate switch on say yes or no");
+    let checksum = memory.iter().fold(0, |sum, word| (sum * 31 + word % 65521) % 65521);
     format!(
-        " buffer {} marker {} wish {}{}{}",
-        choice.buffer,
-        choice.marker,
-        u32::from(choice.wish),
-        frame_text(&choice.header),
-        bytes_text(output, choice.bytes)
+        " flags 0x{:x} priority 0x{:x} sent 0x{:x} cancelled 0x{:x} newdata 0x{:x} memory {checksum}",
+        status[0], status[1], state.sent, state.cancelled, state.new_data
     )
 }
 
-fn event_text(e: Event) -> String {
-    let frame = Frame { id: e.id, xtd: e.xtd, rtr: e.rtr, fdf: e.fdf, brs: e.brs, esi: e.esi, dlc: e.dlc };
-    format!(" read{} marker {} type {} time {}", frame_text(&frame), e.marker, e.kind, e.timestamp)
-}
+// ------------------------------------------------------------------------------------------------------
+// All cases
+// ------------------------------------------------------------------------------------------------------
 
-fn status_text(s: Status) -> String {
-    let ring = |name: &str, r: RingStatus| format!(" {name} {} {} {}", r.fill, r.oldest, r.put);
-    ring("fifo0", s.fifo0)
-        + &ring("fifo1", s.fifo1)
-        + &ring("events", s.events)
-        + &ring("shared", s.shared)
-        + &format!(" pending {}", s.pending)
-}
-
-/// The whole script: cases apart by an empty line, each with its name first.
-fn printed(script: &str) -> String {
+/// What the cases print: they stand apart by an empty line, each with its name first.
+fn printed(calls: &dyn Calls, cases: &str) -> String {
     let mut text = String::new();
-    for case in script.split("\n\n") {
+    for case in cases.split("\n\n") {
         let mut lines = case.lines();
-        let name = lines.next().unwrap();
-        let mut bench = Bench::unstarted();
+        let name = lines.next().unwrap_or_default();
+        let mut bench = Bench::unstarted(calls);
         for line in lines {
             writeln!(text, "{name} {line} ->{}", bench.run(line)).unwrap();
         }
@@ -250,18 +242,39 @@ fn printed(script: &str) -> String {
     text
 }
 
+/// An expected line as the functions for C tell it: of an element that says ANMF they hide the index bits. In what
+/// the handler wrote these are 0; the case `by_hand` sets others.
+fn over_the_boundary(line: &str) -> String {
+    match line.split_once(" anmf 1 index ") {
+        None => line.to_string(),
+        Some((before, after)) => {
+            let after = after.trim_start_matches(|letter: char| letter.is_ascii_digit());
+            format!("{before} anmf 1 index 0{after}")
+        }
+    }
+}
+
+/// Every line that is not as expected, with its number in the file.
+fn differences(who: &str, expected: &str, printed: &str) -> Vec<String> {
+    let expected: Vec<String> = expected.lines().map(over_the_boundary).collect();
+    let printed: Vec<&str> = printed.lines().collect();
+    (0..expected.len().max(printed.len()))
+        .map(|at| (at + 1, expected.get(at).map(String::as_str), printed.get(at).copied()))
+        .filter(|(_, expected, came)| expected != came)
+        .map(|(number, expected, came)| {
+            let (expected, came) = (expected.unwrap_or("no such line"), came.unwrap_or("no such line"));
+            format!("{who}, line {number}\n  expected: {expected}\n  came:     {came}")
+        })
+        .collect()
+}
+
 #[test]
-fn the_worked_cases_print_what_the_model_prints() {
-    let cases = PathBuf::from(env!("CARGO_MANIFEST_DIR")).join("../crates/worked_cases");
-    let script = std::fs::read_to_string(cases.join("stdin")).unwrap();
-    let program = std::fs::read_to_string(cases.join("stdout")).unwrap();
-    let model = printed(&script);
-    let different: Vec<String> = program
-        .lines()
-        .zip(model.lines())
-        .filter(|(library, model)| library != model)
-        .map(|(library, model)| format!("program: {library}\nmodel:   {model}"))
-        .collect();
+fn library_and_model_print_what_is_expected() {
+    let folder = PathBuf::from(env!("CARGO_MANIFEST_DIR")).join("../tests/worked_cases");
+    let read = |name: &str| std::fs::read_to_string(folder.join(name)).unwrap();
+    let (cases, expected) = (read("cases.txt"), read("expected.txt"));
+    let runs: [(&str, &dyn Calls); 2] = [("library", &Library), ("model", &Model)];
+    let different: Vec<String> =
+        runs.iter().flat_map(|(who, calls)| differences(who, &expected, &printed(*calls, &cases))).collect();
     assert!(different.is_empty(), "{} lines differ\n{}", different.len(), different.join("\n"));
-    assert_eq!(program.lines().count(), model.lines().count());
 }

@@ -1,70 +1,73 @@
--- The cases of keeping an element, one law each, and what is shown of them all.
+-- The flags of what is kept, one law for each case, and what is shown of all cases of keeping.
 -- Assumes nothing.
 use Prim.Native.Nat.{ℕ, _+_, _≤_, _<_}
-use mathlib.Core.Path.{_≡_, refl}
-use mathlib.Core.Bool.{Bool, true, false}
-use borrow.Author.Tests.{eq-eqb, ne-eqb, lt-ltb, le-ltb, ltb-true, eqb-false}
-use native.Mathlib.Omega.{arith}
-use lib.Dec.{eqb, ltb}
-use Rattle.words.specs.Choice.{pick}
+use mathlib.Core.Path.{_≡_, refl, ap, _∙_}
+use borrow.Author.Tests.{lt-ltb, le-ltb}
 use Rattle.ring.specs.Rings.{putPlace, pushed, overwritten}
 use Rattle.ring.specs.declared.Ring.{Ring}
-use Rattle.ring.proofs.Circle.{place-lt}
+use Rattle.places.specs.Slots.{takeRule}
+use Rattle.places.specs.declared.Slot.{Slot}
+use Rattle.places.specs.declared.Slot.the-variants.{At, Lost}
+use Rattle.places.specs.declared.Taken.{Taken}
+use Rattle.places.proofs.Takes.{take-cases, taken-within}
 use Rattle.engine.specs.Flags.{raised, filling}
-use Rattle.engine.specs.Keeping.{keepRule, losing, CanKeep}
-use Rattle.engine.specs.declared.state.Record.{Record}
+use Rattle.engine.specs.Keeping.{slotFlags, keptFlags, keepRule}
+use Rattle.engine.specs.Needs.{CanKeep}
 use Rattle.engine.specs.declared.keeping.Keeper.{Keeper}
 use Rattle.engine.specs.declared.keeping.Kept.{Kept}
-use Rattle.engine.specs.declared.keeping.Slot.the-variants.{At, Lost}
+use Rattle.engine.specs.declared.state.Record.{Record}
 
-module _ (k : Keeper) (q : Ring) (r : Record) where
-  pub keep-put : q .fill < k .size → (next : Ring) (p : ℕ) (n : Record) → next ≡ pushed q → p ≡ putPlace q (k .size)
-      → n ≡ filling r (k .first) (next .fill) (k .mark) (k .size) → record { slot = At p; ring = next; status = n } ≡ keepRule k q r
-  unfolding keepRule
-  keep-put h next p n e f g = simp (lt-ltb _ _ h, g, e, f)
+module _ (k : Keeper) (fill : ℕ) (slot : Slot) (r n : Record) where
+  pub flags-rose : fill < k .size → n ≡ filling r (k .first) (fill + 1) (k .mark) (k .size) → n ≡ keptFlags k fill slot r
+  unfolding keptFlags
+  flags-rose h e = simp (lt-ltb _ _ h, e)
 
-  module _ (h : k .size ≤ q .fill) (n : Record) where
-    pub keep-none : k .size ≡ 0 → n ≡ raised r (k .first + 3) → record { slot = Lost; ring = q; status = n } ≡ keepRule k q r
-    unfolding keepRule
-    keep-none z e = simp (le-ltb _ _ h, eq-eqb _ _ z, e)
+  pub flags-over : k .size ≤ fill → (p : ℕ) → slot ≡ At p → n ≡ raised r (k .first) → n ≡ keptFlags k fill slot r
+  unfolding keptFlags
+  flags-over h p y e = simp (le-ltb _ _ h, y, e)
 
-    module _ (z : k .size ≡ 0 → ⊥) where
-      pub keep-blocked : k .overwrites ≡ false → n ≡ raised r (k .first + 3) → record { slot = Lost; ring = q; status = n } ≡ keepRule k q r
-      unfolding keepRule
-      keep-blocked o e = simp (le-ltb _ _ h, ne-eqb _ _ z, o, e)
+  pub flags-lost : k .size ≤ fill → slot ≡ Lost → n ≡ raised r (k .first + 3) → n ≡ keptFlags k fill slot r
+  unfolding keptFlags
+  flags-lost h y e = simp (le-ltb _ _ h, y, e)
 
-      pub keep-over : k .overwrites ≡ true → (next : Ring) → next ≡ overwritten q (k .size) → n ≡ raised r (k .first) → record { slot = At (q .oldest); ring = next; status = n } ≡ keepRule k q r
-      unfolding keepRule
-      keep-over o next e f = simp (le-ltb _ _ h, ne-eqb _ _ z, o, e, f)
+pub ruleset flagged = (flags-rose, flags-over, flags-lost)
 
-pub full : (k : Keeper) (q : Ring) → CanKeep k q → k .size ≤ q .fill → q .fill ≡ k .size
-full k q c h = omega (arith, c .ring .room)
+pub kept-so : (k : Keeper) (q : Ring) (r : Record) (t : Taken) (n : Record) → t ≡ takeRule (k .size) (k .overwrites) q
+    → n ≡ keptFlags k (q .fill) (t .slot) r → record { slot = t .slot; ring = t .ring; recorded = n } ≡ keepRule k q r
+unfolding keepRule
+kept-so k q r t n e f =
+    ap (λ (m : Record). record { slot = t .slot; ring = t .ring; recorded = m }) f
+    ∙ ap (λ (x : Taken). record { slot = x .slot; ring = x .ring; recorded = keptFlags k (q .fill) (x .slot) r }) e
 
-pub some : (n : ℕ) → (n ≡ 0 → ⊥) → 0 < n
-some n h = omega arith
-
-pub ruleset keeps = (keep-put, keep-none, keep-blocked, keep-over)
+-- it is lost, with its flag, and nothing else changes
+abbrev pub losing : Keeper → Ring → Record → Kept
+losing k q r = record { slot = Lost; ring = q; recorded = raised r (k .first + 3) }
 
 -- what is shown of every case is shown of what is kept
 module _ (k : Keeper) (q : Ring) (r : Record) (P : Kept → Type 0)
-    (put : q .fill < k .size → P (record { slot = At (putPlace q (k .size)); ring = pushed q; status = filling r (k .first) (q .fill + 1) (k .mark) (k .size) }))
+    (put : q .fill < k .size
+    → P (record { slot = At (putPlace q (k .size)); ring = pushed q; recorded = filling r (k .first) (q .fill + 1) (k .mark) (k .size) }))
     (lost : P (losing k q r))
-    (over : 0 < k .size → P (record { slot = At (q .oldest); ring = overwritten q (k .size); status = raised r (k .first) })) where
+    (over : 0 < k .size → P (record { slot = At (q .oldest); ring = overwritten q (k .size); recorded = raised r (k .first) })) where
   pub keep-cases : P (keepRule k q r)
-  unfolding keepRule
-  keep-cases = go (ltb (q .fill) (k .size)) refl (eqb (k .size) 0) refl (k .overwrites)
-    where
-      go : (b : Bool) → ltb (q .fill) (k .size) ≡ b → (c : Bool) → eqb (k .size) 0 ≡ c → (o : Bool)
-          → P (pick b (record { slot = At (putPlace q (k .size)); ring = pushed q; status = filling r (k .first) (q .fill + 1) (k .mark) (k .size) }) (pick c (losing k q r) (pick o (record { slot = At (q .oldest); ring = overwritten q (k .size); status = raised r (k .first) }) (losing k q r))))
-      go true x c y o = put (ltb-true (q .fill) (k .size) x)
-      go false x true y o = lost
-      go false x false y true = let n = eqb-false (k .size) 0 y in over (omega arith)
-      go false x false y false = lost
+  unfolding keepRule keptFlags
+  keep-cases =
+      take-cases (k .size) (k .overwrites) q
+      (λ (t : Taken). P (record { slot = t .slot; ring = t .ring; recorded = keptFlags k (q .fill) (t .slot) r }))
+      (λ h. rw (lt-ltb (q .fill) (k .size) h) (put h))
+      (λ h z. rw (le-ltb (q .fill) (k .size) h) lost)
+      (λ h s z. rw (le-ltb (q .fill) (k .size) h) (over s))
 
--- a slot's place is one of the FIFO's
+-- slot and ring are those of the rule without flags
+pub kept-slot : (k : Keeper) (q : Ring) (r : Record) → keepRule k q r .slot ≡ takeRule (k .size) (k .overwrites) q .slot
+unfolding keepRule
+kept-slot k q r = refl
+
+pub kept-ring : (k : Keeper) (q : Ring) (r : Record) → keepRule k q r .ring ≡ takeRule (k .size) (k .overwrites) q .ring
+unfolding keepRule
+kept-ring k q r = refl
+
+-- a slot's place is one of the ring's
 pub kept-within : (k : Keeper) (q : Ring) (r : Record) → CanKeep k q → (p : ℕ) → keepRule k q r .slot ≡ At p → p < k .size
-kept-within k q r h p =
-    keep-cases k q r (λ (c : Kept). c .slot ≡ At p → p < k .size)
-    (λ l e. let same : putPlace q (k .size) ≡ p = cc in omega (arith, place-lt q (k .size) (q .fill) (omega arith)))
-    (λ e. let z : _≡_ {A = ℕ} 0 1 = cc in absurd (omega arith))
-    (λ l e. let same : q .oldest ≡ p = cc in omega (arith, h .ring .place))
+unfolding keepRule
+kept-within k q r h p e = taken-within (k .size) (k .overwrites) q (h .ring) p e

@@ -1,8 +1,7 @@
-pub mod Unfitness
 pub mod Cases
-pub mod Rooms
-pub mod Keeps
+pub mod Unfitness
 pub mod Sounds
-pub mod Judgements
-pub mod Fits
+pub mod Calls
 pub mod Replies
+pub mod Keeps
+pub mod Fits

@@ -4,7 +4,8 @@ use Prim.Native.Nat.{ℕ}
 use mathlib.Core.Path.{_≡_, refl, sym, ap, _∙_}
 use lib.Dec.{eqb}
 use Rattle.words.specs.Choice.{pick}
-use Rattle.engine.specs.Answers.{Says, refuses, answers, numberOf, replied}
+use Rattle.shape.specs.Calls.{Says, refuses, answers}
+use Rattle.engine.specs.Answers.{numberOf, replied}
 use Rattle.engine.specs.Promises.{OneReply}
 use Rattle.engine.specs.declared.refusals.Refusal.{Refusal}
 use Rattle.engine.specs.declared.refusals.Refusal.the-variants.{Unfit, Malformed, FdOff, NoSuch, AlreadyPending, NoneFree, InSharedFifo, NotPending, NotTheChoice, NotHeld, WrongOutput}
@@ -41,12 +42,11 @@ refusal-back WrongOutput = refl
 pub one-number : (a b : Refusal) → numberOf a ≡ numberOf b → a ≡ b
 one-number a b e = sym (refusal-back a) ∙ ap refusalOf e ∙ refusal-back b
 
-replyOf : Says (Unit {0}) → Reply
-replyOf (refuses n) = Refused (refusalOf n)
+abbrev pub replyOf : Says (Unit {0}) → Reply
+replyOf (refuses n) = Refused (refusalOf (n .number))
 replyOf (answers u) = Done
 
-reply-back : (r : Reply) → replyOf (replied r) ≡ r
-unfolding replyOf
+pub reply-back : (r : Reply) → replyOf (replied r) ≡ r
 reply-back Done = refl
 reply-back (Refused n) = ap Refused (refusal-back n)
 

@@ -22,11 +22,13 @@ use Rattle.ring.specs.declared.Ring.{Ring}
 use Rattle.ring.proofs.Fitness.{fit-of-fits, fits-of-fit}
 use Rattle.registers.specs.declared.Registers.{Registers}
 use Rattle.layout.specs.Sections.{memoryWords}
-use Rattle.layout.specs.Verdict.{Refusal, meaning, verdict}
+use Rattle.shape.specs.Refusals.{Refusal}
+use Rattle.layout.specs.Verdict.{meaning, verdict}
 use Rattle.layout.specs.declared.check.Verdict.{Verdict}
 use Rattle.layout.proofs.Accepted.{accepted-is-legal}
-use Rattle.engine.specs.Areas.{fifoWord, fifoSize, eventSize, dedicated, shared, txCount}
-use Rattle.engine.specs.Fitness.{registersUnfit, sharedRingSize, ringsUnfit, past, bitsUnfit, differs, sharedUnfit, flagFields, flagsUnfit, unfit, Sound, FlagsSound, SharedCan}
+use Rattle.registers.specs.Fields.{fifoWord, fifoSize, eventSize, dedicated, shared, txCount}
+use Rattle.engine.specs.Fitness.{registersUnfit, sharedRingSize, ringsUnfit, past, bitsUnfit, differs, sharedUnfit, flagFields, flagsUnfit, unfit, Sound, FlagsSound}
+use Rattle.engine.specs.Needs.{SharedCan}
 use Rattle.engine.specs.Promises.{FitIsSound}
 use Rattle.engine.specs.States.{fifoRing}
 use Rattle.engine.specs.declared.state.State.{State}

@@ -1,21 +1,15 @@
 -- What calls say, in the paper's numbers.
 use Prim.Native.Nat.{ℕ}
-use mathlib.Core.Bool.{Bool, not}
-use mathlib.Core.List.{List}
-use lib.Dec.{eqb}
-use lib.ListN.{length}
 use Rattle.words.specs.Rules.{Ruling, allowed, refused}
+use Rattle.shape.specs.Calls.{Says, refuses, done}
+use Rattle.shape.specs.Refusals.{Refusal as Told}
+use Rattle.layout.specs.Verdict.{plain}
 use Rattle.engine.specs.declared.refusals.Refusal.{Refusal}
 use Rattle.engine.specs.declared.refusals.Refusal.the-variants.{Unfit, Malformed, FdOff, NoSuch, AlreadyPending, NoneFree, InSharedFifo, NotPending, NotTheChoice, NotHeld, WrongOutput}
 use Rattle.engine.specs.declared.refusals.Reply.{Reply}
 use Rattle.engine.specs.declared.refusals.Reply.the-variants.{Done, Refused}
 use Rattle.engine.specs.declared.refusals.Judged
 use Rattle.engine.specs.declared.refusals.Judged.{Judged}
-
--- a refusal's number, or what the call answers
-pub data Says (A : Type 0) : Type 0 where
-  refuses : ℕ → Says A
-  answers : A → Says A
 
 -- refusals 20 to 30
 abbrev pub numberOf : Refusal → ℕ
@@ -31,19 +25,16 @@ numberOf NotTheChoice = 28
 numberOf NotHeld = 29
 numberOf WrongOutput = 30
 
--- 30: the output that was lent has another length than 64 bytes
-abbrev pub wrongOutput : List ℕ → Bool
-wrongOutput out = not (eqb (length out) 64)
+-- such a refusal names no section
+abbrev pub told : Refusal → Told
+told n = plain (numberOf n)
 
--- of a call that has nothing to tell
-abbrev pub done : Says (Unit {0})
-done = answers tt
-
+-- what a call that has nothing to tell replies
 abbrev pub replied : Reply → Says (Unit {0})
 replied Done = done
-replied (Refused n) = refuses (numberOf n)
+replied (Refused n) = refuses (told n)
 
 -- what is found against a call
-abbrev pub ruled : Judged → Ruling ℕ
+abbrev pub ruled : Judged → Ruling Told
 ruled Judged.the-variants.Allowed = allowed
-ruled (Judged.the-variants.Refused n) = refused (numberOf n)
+ruled (Judged.the-variants.Refused n) = refused (told n)

@@ -1,9 +1,8 @@
 pub mod Answers
 pub mod States
-pub mod Areas
 pub mod Fitness
 pub mod Flags
 pub mod Keeping
-pub mod Starting
-pub mod Overview
+pub mod Calls
+pub mod Needs
 pub mod Promises

@@ -1,5 +1,5 @@
 // When a state and its record are unfit for a memory (refusal 20).
-use crate::areas::tx_count;
+use crate::flags::FLAGS;
 use crate::state::Record;
 use crate::state::State;
 use layout::check::check;
@@ -7,8 +7,8 @@ use registers::Registers;
 use words::bits32;
 ghost use mathlib.Core.Path.{_≡_};
 ghost use Prim.Native.Nat.{_≤_};
-ghost use Rattle.engine.specs.Areas.{isQueue};
-ghost use Rattle.engine.specs.Fitness.{past, ringsUnfit, bitsUnfit, sharedRingSize, differs, sharedUnfit, flagsUnfit, unfit, SharedFits, SharedCan};
+ghost use Rattle.engine.specs.Fitness.{past, ringsUnfit, bitsUnfit, sharedRingSize, differs, sharedUnfit, flagsUnfit, unfit};
+ghost use Rattle.engine.specs.Needs.{SharedFits, SharedCan};
 
 // A bit at place n or above is set, of a word of 32 bits.
 fn past32(word: u32, n: u32) -> bool
@@ -30,18 +30,11 @@ fn past64(word: u64, n: u32) -> bool
     false
 }
 
-// Whether the shared Tx buffers are a queue.
-pub fn is_queue(r: Registers) -> bool
-    ensures { λ b. ⌜ b ≡ isQueue r ⌝ }
-{
-    r.txbc.queue() == 1
-}
-
 // The size of the shared FIFO's ring: 0 in queue mode.
 pub fn shared_ring_size(r: Registers) -> u32
     ensures { λ n. ⌜ (n ≡ sharedRingSize r) × (n ≤ 63) ⌝ }
 {
-    if is_queue(r) {
+    if r.is_queue() {
         return 0;
     }
     r.txbc.shared()
@@ -60,7 +53,7 @@ fn rings_unfit(s: State) -> bool
 fn bits_unfit(s: State) -> bool
     ensures { λ b. ⌜ b ≡ bitsUnfit s ⌝ }
 {
-    let count = tx_count(s.regs);
+    let count = s.regs.tx_count();
     past32(s.pending, count)
         | past32(s.sent, count)
         | past32(s.cancelled, count)
@@ -95,9 +88,6 @@ fn flags_unfit(r: Record) -> bool
 {
     !(r.flags & FLAGS == r.flags)
 }
-
-// The flags that exist.
-pub const FLAGS: u32 = 0x8_ffff;
 
 // Refusal 20, for a memory of so many words.
 pub fn is_unfit(s: State, r: Record, words: usize) -> bool

@@ -1,9 +1,33 @@
-// The steps on the record, by value.
+// The flags, and the steps on the record, by value.
 use crate::state::Record;
 use words::bits32;
 ghost use mathlib.Core.Path.{_≡_};
 ghost use Prim.Native.Nat.{_+_, _≤_, _<_};
 ghost use Rattle.engine.specs.Flags.{raised, raisedIf, cleared, withPriority, filling, priorityWord};
+
+// FIFO 0's flags start at 0, FIFO 1's at 4, the event list's at 12: new, watermark, full and lost, in this order.
+pub const FIFO_FLAGS: u32 = 4;
+
+pub const EVENT_FLAGS: u32 = 12;
+
+pub const WATERMARK: u32 = 1;
+
+pub const FULL: u32 = 2;
+
+pub const LOST: u32 = 3;
+
+pub const PRIORITY: u32 = 8;
+
+pub const SENT: u32 = 9;
+
+pub const CANCELLED: u32 = 10;
+
+pub const TX_FIFO_EMPTIED: u32 = 11;
+
+pub const RX_BUFFER_STORED: u32 = 19;
+
+// The flags that exist.
+pub const FLAGS: u32 = 0x8_ffff;
 
 // One flag is set.
 pub fn raise(r: Record, flag: u32) -> Record
@@ -50,8 +74,8 @@ pub fn fill_rose(r: Record, first: u32, fill: u32, mark: u32, size: u32) -> Reco
     ensures { λ n. ⌜ n ≡ filling r first fill mark size ⌝ }
 {
     let new = raise(r, first);
-    let marked = raise_if(new, fill == mark, first + 1);
-    raise_if(marked, fill == size, first + 2)
+    let marked = raise_if(new, fill == mark, first + WATERMARK);
+    raise_if(marked, fill == size, first + FULL)
 }
 
 // What the priority record says of a match: its list and index, the outcome and the element.

@@ -1,20 +1,20 @@
-// What becomes of a new element in a ring of elements: FIFO 0, FIFO 1 and the event list alike.
+// What becomes of a new element in a ring of elements, with its flags: FIFO 0, FIFO 1 and the event list alike.
+use crate::flags::LOST;
 use crate::flags::fill_rose;
 use crate::flags::raise;
 use crate::state::Record;
+use places::Slot;
+use places::take;
 use ring::Ring;
 ghost use mathlib.Core.Path.{_≡_};
-ghost use Rattle.engine.specs.Keeping.{keepRule, CanKeep};
-
-pub enum Slot {
-    At(u32),
-    Lost,
-}
+ghost use Prim.Native.Nat.{_≤_};
+ghost use Rattle.engine.specs.Keeping.{keptFlags, keepRule};
+ghost use Rattle.engine.specs.Needs.{CanKeep};
 
 pub struct Kept {
     pub slot: Slot,
     pub ring: Ring,
-    pub status: Record,
+    pub recorded: Record,
 }
 
 // A ring of this size, watermark and mode, whose flags start at `first`.
@@ -25,36 +25,31 @@ pub struct Keeper {
     pub first: u32,
 }
 
-pub fn keep(k: Keeper, q: Ring, status: Record) -> Kept
-    requires { ⌜ CanKeep k q ⌝ }
-    ensures { λ r. ⌜ r ≡ keepRule k q status ⌝ }
+// The flags of what became of it, by the fill before.
+fn note_kept(k: Keeper, fill: u32, slot: Slot, recorded: Record) -> Record
+    requires { ⌜ k .first ≤ 28 ⌝ }
+    ensures { λ n. ⌜ n ≡ keptFlags k fill slot recorded ⌝ }
 {
     let size = k.size;
-    if q.fill < size {
-        let next = ring::push(q, size);
-        return Kept {
-            slot: Slot::At(ring::put_place(q, size)),
-            ring: next,
-            status: fill_rose(status, k.first, next.fill, k.mark, size),
-        };
+    if fill < size {
+        return fill_rose(recorded, k.first, fill + 1, k.mark, size);
     }
-    if size == 0 {
-        return Kept {
-            slot: Slot::Lost,
-            ring: q,
-            status: raise(status, k.first + 3),
-        };
+    match slot {
+        Slot::At(_) => raise(recorded, k.first),
+        Slot::Lost => raise(recorded, k.first + LOST),
     }
-    if k.overwrites {
-        return Kept {
-            slot: Slot::At(q.oldest),
-            ring: ring::overwrite(q, size),
-            status: raise(status, k.first),
-        };
-    }
+}
+
+pub fn keep(k: Keeper, q: Ring, recorded: Record) -> Kept
+    requires { ⌜ CanKeep k q ⌝ }
+    ensures { λ r. ⌜ r ≡ keepRule k q recorded ⌝ }
+{
+    let taken = take(q, k.size, k.overwrites);
+    let slot = taken.slot;
+    let ring = taken.ring;
     Kept {
-        slot: Slot::Lost,
-        ring: q,
-        status: raise(status, k.first + 3),
+        slot,
+        ring,
+        recorded: note_kept(k, q.fill, slot, recorded),
     }
 }

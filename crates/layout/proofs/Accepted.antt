@@ -20,7 +20,8 @@ use Rattle.registers.specs.Kinds.{sidfc, xidfc, rxfc, rxbc, rxesc, txefc, txbc,
 use Rattle.registers.specs.Given.{allNamed}
 use Rattle.registers.specs.declared.Registers.{Registers}
 use Rattle.layout.specs.Sections.{none, sectionsOf}
-use Rattle.layout.specs.Verdict.{names, over, firstWith, countRule, txRule, end, past, endRule, shares, partner, hasPartner, pairRule, rules, verdict}
+use Rattle.shape.specs.Refusals.{names}
+use Rattle.layout.specs.Verdict.{over, firstWith, countRule, txRule, end, past, endRule, shares, partner, hasPartner, pairRule, rules, verdict}
 use Rattle.layout.specs.Legal.{Named, Counted, Has, Legal}
 use Rattle.layout.specs.Promises.{AcceptedIsLegal}
 use Rattle.layout.specs.declared.sections.Section.{Section}

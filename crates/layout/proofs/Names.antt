@@ -16,7 +16,8 @@ use Rattle.words.proofs.Rulings.{first-refused, refused-by}
 use Rattle.registers.specs.Given.{allNamed}
 use Rattle.registers.specs.declared.Registers.{Registers}
 use Rattle.layout.specs.Sections.{none, sectionsOf}
-use Rattle.layout.specs.Verdict.{Refusal, names, over, firstWith, end, past, shares, partner, hasPartner, rules, verdict}
+use Rattle.shape.specs.Refusals.{Refusal, names}
+use Rattle.layout.specs.Verdict.{over, firstWith, end, past, shares, partner, hasPartner, rules, verdict}
 use Rattle.layout.specs.Promises.{CountNamesFirst, EndNamesFirst, OverlapNamesFirst}
 use Rattle.layout.proofs.Table.{Within, has-within, within-has, empty-or-some}
 use Rattle.layout.proofs.Accepted.{apart-words, shared-word, no-partner, verdict-rules}

@@ -4,7 +4,8 @@ use mathlib.Core.Path.{_≡_, refl, sym, ap, _∙_}
 use lib.Dec.{eqb}
 use Rattle.words.specs.Choice.{pick}
 use Rattle.words.specs.Rules.{Ruling, allowed, refused}
-use Rattle.layout.specs.Verdict.{Refusal, meaning}
+use Rattle.shape.specs.Refusals.{Refusal}
+use Rattle.layout.specs.Verdict.{meaning}
 use Rattle.layout.specs.Promises.{OneAnswer}
 use Rattle.layout.specs.declared.check.Verdict.{Verdict}
 use Rattle.layout.specs.declared.check.Verdict.the-variants.{Accepted, WrongMemory, UnnamedBit, CountOver, TxOver, PastMemory, Overlap}

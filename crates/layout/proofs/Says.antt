@@ -15,7 +15,8 @@ use Rattle.words.proofs.Rulings.{passed, halted, let-pass, turned-down}
 use Rattle.registers.specs.Given.{allNamed}
 use Rattle.registers.specs.declared.Registers.{Registers}
 use Rattle.layout.specs.Sections.{none, section, sectionsOf, overMost}
-use Rattle.layout.specs.Verdict.{Refusal, names, meaning, over, past, bitsRule, countRule, txRule, endRule, pairRule, verdict}
+use Rattle.shape.specs.Refusals.{Refusal, names}
+use Rattle.layout.specs.Verdict.{meaning, over, past, bitsRule, countRule, txRule, endRule, pairRule, verdict}
 use Rattle.layout.specs.declared.sections.Section.{Section}
 use Rattle.layout.specs.declared.check.Verdict.{Verdict}
 use Rattle.layout.specs.declared.check.Verdict.the-variants.{WrongMemory, UnnamedBit, CountOver, TxOver, PastMemory}

@@ -13,7 +13,7 @@ use lib.ListN.{getD, List·getD-map}
 use Rattle.words.specs.Choice.{pick}
 use Rattle.words.specs.Fields.{bits}
 use Rattle.words.proofs.Tables.{every, every-at}
-use Rattle.registers.specs.Sizes.{elementWords}
+use Rattle.frame.specs.Sizes.{elementWords}
 use Rattle.registers.specs.declared.Registers.{Registers}
 use Rattle.layout.specs.Sections.{none, section, sidfcSection, xidfcSection, txefcSection, sectionsOf}
 use Rattle.layout.specs.Verdict.{end}

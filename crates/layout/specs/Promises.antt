@@ -5,7 +5,8 @@ use mathlib.Core.Bool.{true, false}
 use mathlib.Core.Logic.{_↔_}
 use Rattle.words.specs.Rules.{allowed, refused}
 use Rattle.registers.specs.declared.Registers.{Registers}
-use Rattle.layout.specs.Verdict.{names, meaning, over, verdict}
+use Rattle.shape.specs.Refusals.{names}
+use Rattle.layout.specs.Verdict.{meaning, over, verdict}
 use Rattle.layout.specs.Legal.{Has, Legal}
 use Rattle.layout.specs.declared.check.Verdict.{Verdict}
 

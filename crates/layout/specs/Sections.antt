@@ -5,7 +5,7 @@ use mathlib.Core.List.{List, [], _∷_}
 use lib.Dec.{eqb, ltb}
 use Rattle.words.specs.Choice.{pick}
 use Rattle.words.specs.Fields.{bits}
-use Rattle.registers.specs.Sizes.{elementWords}
+use Rattle.frame.specs.Sizes.{elementWords}
 use Rattle.registers.specs.declared.Registers.{Registers}
 use Rattle.layout.specs.declared.sections.Section.{Section}
 

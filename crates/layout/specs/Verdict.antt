@@ -7,6 +7,7 @@ use lib.ListN.{getD, replicate}
 use Rattle.words.specs.Fields.{bits}
 use Rattle.words.specs.Least.{leastFrom}
 use Rattle.words.specs.Rules.{Ruling, allowed, refused, refuseIf, first, settle}
+use Rattle.shape.specs.Refusals.{Refusal, names}
 use Rattle.registers.specs.Given.{allNamed}
 use Rattle.registers.specs.declared.Registers.{Registers}
 use Rattle.layout.specs.Sections.{none, overMost, sectionsOf}
@@ -14,14 +15,9 @@ use Rattle.layout.specs.declared.sections.Section.{Section}
 use Rattle.layout.specs.declared.check.Verdict.{Verdict}
 use Rattle.layout.specs.declared.check.Verdict.the-variants.{Accepted, WrongMemory, UnnamedBit, CountOver, TxOver, PastMemory, Overlap}
 
--- what a refused start says
-pub record Refusal : Type 0 where
-  pub number : ℕ
-  pub section : ℕ
-  pub other : ℕ
-
-abbrev pub names : ℕ → ℕ → ℕ → Refusal
-names n a b = record { number = n; section = a; other = b }
+-- a refusal by its number alone: it names no section
+abbrev pub plain : ℕ → Refusal
+plain n = names n 7 7
 
 -- what each answer of the code says in the paper's numbers
 abbrev pub meaning : Verdict → Ruling Refusal

@@ -1,13 +1,13 @@
 // The seven sections that the registers lay out in the memory.
+use frame::sizes::element_words;
 use registers::Registers;
-use registers::WordAddress;
 use registers::kinds::Rxbc;
 use registers::kinds::Rxfc;
 use registers::kinds::Sidfc;
 use registers::kinds::Txbc;
 use registers::kinds::Txefc;
 use registers::kinds::Xidfc;
-use registers::sizes::element_words;
+use words::WordAddress;
 ghost use mathlib.Core.Path.{_≡_};
 ghost use Prim.Native.Nat.{_<_, _≤_};
 ghost use Rattle.layout.specs.Sections.{none as noSection, section, sidfcSection, xidfcSection, rxfcSection, rxbcSection, txefcSection, txbcSection, overMost, sectionsOf};

@@ -7,7 +7,8 @@ use lib.ListN.{take}
 use Rattle.words.specs.Choice.{pick}
 use Rattle.words.specs.Rules.{Ruling, allowed, refused}
 use Rattle.layout.specs.Sections.{memoryWords, sectionsOf}
-use Rattle.layout.specs.Verdict.{Refusal, verdict}
+use Rattle.shape.specs.Refusals.{Refusal}
+use Rattle.layout.specs.Verdict.{verdict}
 use Rattle.layout.specs.declared.sections.Section.{Section}
 use Rattle.printout.specs.Ascii.{ascii}
 use Rattle.printout.specs.Input.{readable, registersOf}

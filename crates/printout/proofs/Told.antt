@@ -11,7 +11,8 @@ use Rattle.words.specs.Rules.{Ruling, allowed, refused}
 use Rattle.words.proofs.Choices.{pick-first, pick-second}
 use Rattle.registers.specs.declared.Registers.{Registers}
 use Rattle.layout.specs.Sections.{memoryWords, none, sectionsOf}
-use Rattle.layout.specs.Verdict.{Refusal, names, meaning, verdict, reported}
+use Rattle.shape.specs.Refusals.{Refusal, names}
+use Rattle.layout.specs.Verdict.{meaning, verdict, reported}
 use Rattle.layout.specs.declared.sections.Section.{Section}
 use Rattle.layout.specs.declared.check.Verdict.{Verdict}
 use Rattle.printout.specs.Ascii.{ascii}

@@ -8,7 +8,8 @@ use Rattle.words.specs.Choice.{pick}
 use Rattle.words.specs.Rules.{Ruling, settle}
 use Rattle.registers.specs.declared.Registers.{Registers}
 use Rattle.layout.specs.Sections.{memoryWords, none, sectionsOf}
-use Rattle.layout.specs.Verdict.{Refusal, verdict}
+use Rattle.shape.specs.Refusals.{Refusal}
+use Rattle.layout.specs.Verdict.{verdict}
 use Rattle.layout.specs.declared.sections.Section.{Section}
 use Rattle.printout.specs.Ascii.{ascii}
 use Rattle.printout.specs.Input.{readable, registersOf}

@@ -1,3 +1,4 @@
+-- The loop is the search for the lowest place that differs: what is left of it is the search from the next place on.
 use Prim.Native.Nat.{_≤_, _-_}
 use Rattle.engine.proofs.Cases.{can-look}
 use Rattle.engine.proofs.Unfitness.{Left, shared-found, shared-on, shared-none}
@@ -12,29 +13,11 @@ Inv-loop s size p₀ p = (p ≤ size) × Left s size p
 abbrev μ-loop : tie.MeasureT-loop
 μ-loop s size p₀ p = size - p
 
-shared-ring-size-requires : tie.Need-shared-ring-size-requires Inv-loop μ-loop
-shared-ring-size-requires c κs = search needs
-
 loop-holds : tie.Need-loop-holds Inv-loop μ-loop
 loop-holds c = (search needs, look-start _ _)
 
-differs-at-requires : tie.Need-differs-at-requires Inv-loop μ-loop
-differs-at-requires c κs = search (can-look, needs)
-
-returns : tie.Need-returns Inv-loop μ-loop
-returns c = search (shared-found, needs)
-
-add-p : tie.Need-add-p Inv-loop μ-loop
-add-p c = search needs
-
-loop-less : tie.Need-loop-less Inv-loop μ-loop
-loop-less c = search needs
-
 loop-again : tie.Need-loop-again Inv-loop μ-loop
 loop-again c = (search needs, search (shared-on, needs))
-
-returns-2 : tie.Need-returns-2 Inv-loop μ-loop
-returns-2 c = search (shared-none, needs)
 
 pub shared-unfit-spec : {M : Type 1} → statement M
 shared-unfit-spec =
@@ -42,11 +25,10 @@ shared-unfit-spec =
     (tie.spec
     Inv-loop
     μ-loop
-    shared-ring-size-requires
+    (λ c κs. search needs)
     loop-holds
-    differs-at-requires
-    returns
-    add-p
-    loop-less
+    (λ c κs. search (can-look, needs))
+    (λ c. search (shared-found, needs))
+    (λ c. search needs) (λ c. search needs)
     loop-again
-    returns-2)
+    (λ c. search (shared-none, needs)))

@@ -1,3 +1,4 @@
+-- Only the priority is another.
 use mathlib.Core.Path.{refl}
 use Rattle.engine.specs.Flags.{withPriority}
 use Rattle.engine.proofs.flags.set_priority.Statement.{statement}

@@ -1,3 +1,4 @@
+-- By the number of the FIFO.
 use borrow.Author.Tests.{eq-eqb, ne-eqb}
 use Rattle.engine.specs.States.{fifoRing}
 use Rattle.engine.proofs.state.State.fifo_ring.Statement.{statement}

@@ -1,3 +1,4 @@
+-- By the number of the FIFO.
 use borrow.Author.Tests.{eq-eqb, ne-eqb}
 use Rattle.engine.specs.States.{withFifo}
 use Rattle.engine.proofs.state.State.with_fifo.Statement.{statement}

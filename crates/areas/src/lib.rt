@@ -1,0 +1,61 @@
+// The areas of the memory where elements stand: FIFO 0 and 1, Rx buffers, events and Tx buffers.
+use frame::sizes::element_words;
+use layout::sections::Section;
+use layout::sections::events;
+use layout::sections::fifo;
+use layout::sections::rx_buffers;
+use layout::sections::tx_buffers;
+use places::Area;
+use registers::Registers;
+use registers::kinds::Txefc;
+ghost use mathlib.Core.Path.{_≡_};
+ghost use Prim.Native.Nat.{_≤_};
+ghost use Rattle.areas.specs.Areas.{areaIn, fifoArea, bufferArea, eventArea, txArea, dataWords};
+
+fn area_in(s: Section, count: u32, each: u32) -> Area
+    ensures { λ a. ⌜ a ≡ areaIn s count each ⌝ }
+{
+    let start = s.start;
+    Area { start, count, each }
+}
+
+pub fn fifo_area(r: Registers, number: u32) -> Area
+    ensures { λ a. ⌜ a ≡ fifoArea r number ⌝ }
+{
+    let w = r.fifo(number);
+    let code = r.fifo_code(number);
+    area_in(fifo(w, code), w.count(), element_words(code))
+}
+
+pub fn buffer_area(r: Registers) -> Area
+    requires { ⌜ r .buffers ≤ 64 ⌝ }
+    ensures { λ a. ⌜ a ≡ bufferArea r ⌝ }
+{
+    let code = r.rxesc.buffers();
+    area_in(
+        rx_buffers(r.rxbc, r.buffers, code),
+        r.buffers,
+        element_words(code),
+    )
+}
+
+pub fn event_area(r: Registers) -> Area
+    ensures { λ a. ⌜ a ≡ eventArea r ⌝ }
+{
+    area_in(events(r.txefc), r.txefc.count(), Txefc::EACH)
+}
+
+pub fn tx_area(r: Registers) -> Area
+    ensures { λ a. ⌜ a ≡ txArea r ⌝ }
+{
+    let code = r.txesc.size();
+    area_in(tx_buffers(r.txbc, code), r.tx_count(), element_words(code))
+}
+
+// The data words of an element: all but the two of its header.
+pub fn data_words(a: Area) -> usize
+    requires { ⌜ 2 ≤ a .each ⌝ }
+    ensures { λ n. ⌜ n ≡ dataWords a ⌝ }
+{
+    (a.each - 2) as usize
+}

@@ -1,2 +1,0 @@
-// Calls 2 to 6 of a case.
-pub mod receiving_steps;

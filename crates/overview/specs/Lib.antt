@@ -1,0 +1,2 @@
+pub mod Overview
+pub mod Promises
