@@ -1,4 +1,4 @@
--- A place of a ring that a call names, in FIFO 0 or 1 or the event list: what is against the call, and what an acknowledge leaves.
+-- A place in FIFO 0 or 1 or the event list that a call names: what is against the call, and what an acknowledge leaves.
 use Prim.Native.Nat.{ℕ}
 use mathlib.Core.Path.{_≡_}
 use mathlib.Core.Bool.{not, _&&_}
