@@ -4,5 +4,6 @@ pub mod Fitness
 pub mod Flags
 pub mod Keeping
 pub mod Calls
+pub mod Holding
 pub mod Needs
 pub mod Promises
