@@ -1,7 +1,10 @@
 pub mod Cases
 pub mod Unfitness
 pub mod Sounds
+pub mod Parts
 pub mod Calls
+pub mod Alike
 pub mod Replies
 pub mod Keeps
+pub mod Records
 pub mod Fits

@@ -3,10 +3,3 @@ pub mod Notes
 pub mod Stores
 pub mod Lists
 pub mod Takes
-pub mod Outcomes
-pub mod Elements
-pub mod OneElement
-pub mod StillFit
-pub mod Refusals
-pub mod OneOutcome
-pub mod OwnWords
