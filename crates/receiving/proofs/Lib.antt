@@ -3,3 +3,8 @@ pub mod Notes
 pub mod Stores
 pub mod Lists
 pub mod Takes
+pub mod Outcomes
+pub mod Elements
+pub mod StillFit
+pub mod OwnSections
+pub mod Answers
