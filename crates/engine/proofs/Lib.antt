@@ -5,6 +5,8 @@ pub mod Parts
 pub mod Calls
 pub mod Memories
 pub mod Holdings
+pub mod Alike
 pub mod Replies
 pub mod Keeps
+pub mod Records
 pub mod Fits
