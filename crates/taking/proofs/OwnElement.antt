@@ -1,4 +1,4 @@
--- A read looks at its own element and writes the front of its output alone; an acknowledge and a release look at no word.
+-- A read looks at its own element and writes the front of its output alone; the other two calls look at no word.
 -- Assumes nothing.
 use Prim.Native.Nat.{ℕ, _+_, _*_, _<_, min}
 use mathlib.Core.Path.{_≡_, refl, ap, ap₂, subst}
