@@ -1,26 +1,30 @@
--- A read looks at its own element alone, and an acknowledge and a release at no word.
+-- A read looks at its own element and writes the front of its output alone; the other two calls look at no word.
 -- Assumes nothing.
 use Prim.Native.Nat.{ℕ, _+_, _*_, _<_, min}
-use mathlib.Core.Path.{_≡_, refl, ap, ap₂}
+use mathlib.Core.Path.{_≡_, refl, ap, ap₂, subst}
 use mathlib.Core.List.{List, [], _++_}
 use native.Mathlib.Omega.{arith}
 use lib.ListN.{length}
-use Rattle.words.specs.Ranges.{SameIn}
+use Rattle.words.specs.Bytes.{byteIn}
+use Rattle.words.specs.Ranges.{front, SameIn, OnlyIn}
 use Rattle.words.specs.Rules.{allowed, first}
-use Rattle.words.specs.Runs.{splice}
+use Rattle.words.specs.Runs.{run, splice}
 use Rattle.words.proofs.Parts.{part-same}
+use Rattle.words.proofs.Ranges.{splice-only}
+use Rattle.words.proofs.Runs.{length-run}
 use Rattle.shape.specs.Calls.{answers, outcome, leaves, effected, call}
 use Rattle.shape.specs.Refusals.{Refusals}
 use Rattle.shape.proofs.Calls.{rows-both}
 use Rattle.places.specs.Areas.{placeIn, placeRange, HasPlace}
 use Rattle.places.specs.declared.Area.{Area}
 use Rattle.places.proofs.Rooms.{place-room}
-use Rattle.element.specs.Bytes.{lengthOf, readCount, rxRead}
-use Rattle.element.specs.Headers.{frameIn, rxHeaderIn}
+use Rattle.frame.proofs.Lengths.{length-most}
+use Rattle.element.specs.Bytes.{lengthOf, readCount, rxRead, readBytes}
+use Rattle.element.specs.Headers.{frameIn, rxHeaderIn, headed}
 use Rattle.element.specs.declared.RxRead.{RxRead}
 use Rattle.element.proofs.OwnWords.{own-words}
 use Rattle.areas.specs.Areas.{fifoArea, bufferArea, dataWords}
-use Rattle.engine.specs.Calls.{World, withState, withMemory, outputRefusals, inMemory}
+use Rattle.engine.specs.Calls.{World, withState, withMemory, outputBytes, outputRefusals, inMemory}
 use Rattle.engine.proofs.Memories.{same-in-memory}
 use Rattle.taking.specs.Places.{fifoRefusals, bufferRefusals}
 use Rattle.taking.specs.Promises.{CallsReadOwnElement}
@@ -47,6 +51,18 @@ module _ (w : World) (other : List ℕ) (a : Area) (place : ℕ) (out : List ℕ
       (ap₂ (λ (x y : ℕ). record { header = rxHeaderIn x y; count = min (lengthOf (frameIn x y)) (4 * n) }) (o .first)
       (o .second))
       (o .read)
+
+-- as many bytes of the output are written as the answer tells
+pub reads-front : (w : World) (a : Area) (place : ℕ) (out : List ℕ) → length out ≡ outputBytes
+    → let d = reads w a place out in OnlyIn (front (d .answer .count)) out (d .output)
+unfolding reads rxRead readBytes readCount
+reads-front w a place out e =
+    let f = headed frameIn (w .memory) (placeIn a place) in
+    let n = min (lengthOf f) (4 * dataWords a) in
+    let bytes = run (byteIn (w .memory) (placeIn a place + 2)) 0 n in
+    let long : length bytes ≡ n = length-run (byteIn (w .memory) (placeIn a place + 2)) 0 n in
+    subst (λ (k : ℕ). OnlyIn (front k) out (splice out 0 bytes)) long
+    (splice-only out 0 bytes (omega (arith, length-most (f .rtr) (f .fdf) (f .dlc))))
 
 -- ---- the rows, which ask for the length alone
 
