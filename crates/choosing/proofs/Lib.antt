@@ -1,2 +1,4 @@
 pub mod Picks
+pub mod Calls
 pub mod Candidates
+pub mod Answers

@@ -4,15 +4,17 @@ use mathlib.Core.Bool.{Bool, not, _&&_}
 use mathlib.Core.List.{List}
 use lib.Dec.{leb}
 use Rattle.words.specs.Bits.{isSet}
+use Rattle.registers.specs.Fields.{dedicated, txCount, isQueue}
 use Rattle.element.specs.Headers.{txHeaderIn, headed}
 use Rattle.element.specs.declared.TxHeader.{TxHeader}
-use Rattle.engine.specs.Areas.{dedicated, txCount, isQueue, txArea, placeIn}
-use Rattle.engine.specs.declared.areas.Area.{Area}
+use Rattle.places.specs.Areas.{placeIn}
+use Rattle.places.specs.declared.Area.{Area}
+use Rattle.areas.specs.Areas.{txArea}
 use Rattle.engine.specs.declared.state.State.{State}
 
 -- 23: no such buffer
-abbrev pub noBuffer : State → ℕ → Bool
-noBuffer s buffer = leb (txCount (s .regs)) buffer
+abbrev pub noTxBuffer : State → ℕ → Bool
+noTxBuffer s buffer = leb (txCount (s .regs)) buffer
 
 abbrev pub isPending : State → ℕ → Bool
 isPending s buffer = isSet (s .pending) buffer
