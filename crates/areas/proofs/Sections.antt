@@ -11,7 +11,6 @@ use borrow.Author.Tests.{ltb-true, ltb-false}
 use Rattle.words.proofs.Ranges.{apart-sym}
 use Rattle.places.specs.Areas.{areaRange, Apart}
 use Rattle.places.specs.declared.Area.{Area}
-use Rattle.registers.specs.Fields.{fifoWord, fifoCode}
 use Rattle.registers.specs.declared.Registers.{Registers}
 use Rattle.layout.specs.Legal.{Legal}
 use Rattle.layout.specs.Sections.{memoryWords, none, sectionsOf}
@@ -30,7 +29,6 @@ own-fifo g (suc (suc k)) h = absurd (omega arith)
 
 module _ (g : Registers) where
   pub own-start : (i : ℕ) → i < 5 → getD (sectionsOf g) (2 + i) none .start .0 ≡ own g i .start .0
-  unfolding fifoWord fifoCode
   own-start zero h = refl
   own-start (suc zero) h = refl
   own-start (suc (suc zero)) h = refl
@@ -39,7 +37,6 @@ module _ (g : Registers) where
   own-start (suc (suc (suc (suc (suc i))))) h = absurd (omega arith)
 
   pub own-size : (i : ℕ) → i < 5 → getD (sectionsOf g) (2 + i) none .words ≡ own g i .count * own g i .each
-  unfolding fifoWord fifoCode
   own-size zero h = section-words _ _ _
   own-size (suc zero) h = section-words _ _ _
   own-size (suc (suc zero)) h = section-words _ _ _

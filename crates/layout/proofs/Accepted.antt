@@ -9,7 +9,7 @@ use borrow.Author.Tests.{eqb-true, eq-eqb, ltb-true, ltb-false, le-ltb, leb-true
 use native.Mathlib.Omega.{arith}
 use lib.Dec.{eqb, ltb, leb}
 use lib.ListN.{getD}
-use Rattle.words.specs.Fields.{bits, onlyNamed}
+use Rattle.words.specs.Fields.{onlyNamed}
 use Rattle.words.specs.Least.{leastFrom}
 use Rattle.words.specs.Rules.{allowed, first}
 use Rattle.words.proofs.Choices.{and-both, or-neither}
@@ -17,11 +17,12 @@ use Rattle.words.proofs.Lowest.{least-below, least-absent}
 use Rattle.words.proofs.Rulings.{all-allowed, allowed-all, held-off, let-pass}
 use Rattle.words.proofs.Unnamed.{unnamed, agrees, below32}
 use Rattle.registers.specs.Kinds.{sidfc, xidfc, rxfc, rxbc, rxesc, txefc, txbc, txesc, gfc, xidam}
+use Rattle.shape.specs.Refusals.{names}
+use Rattle.registers.specs.Fields.{dedicated, shared}
 use Rattle.registers.specs.Given.{allNamed}
 use Rattle.registers.specs.declared.Registers.{Registers}
 use Rattle.layout.specs.Sections.{none, sectionsOf}
-use Rattle.shape.specs.Refusals.{names}
-use Rattle.layout.specs.Verdict.{over, firstWith, countRule, txRule, end, past, endRule, shares, partner, hasPartner, pairRule, rules, verdict}
+use Rattle.layout.specs.Verdict.{plain, over, firstWith, countRule, txRule, end, past, endRule, shares, partner, hasPartner, pairRule, rules, verdict}
 use Rattle.layout.specs.Legal.{Named, Counted, Has, Legal}
 use Rattle.layout.specs.Promises.{AcceptedIsLegal}
 use Rattle.layout.specs.declared.sections.Section.{Section}
@@ -90,7 +91,7 @@ module _ (r : Registers) where
   counted : countRule r ≡ allowed → txRule r ≡ allowed → Counted r
   counted e f =
       let o = none-with 12 (over r) e in
-      let t = or-neither (ltb 32 (bits 21 16 (r .txbc .word))) (ltb 32 (bits 29 24 (r .txbc .word))) (o 6 (omega arith)) in
+      let t = or-neither (ltb 32 (dedicated r)) (ltb 32 (shared r)) (o 6 (omega arith)) in
       record {
         filters11 = ltb-false _ _ (o 0 (omega arith));
         filters29 = ltb-false _ _ (o 1 (omega arith));
@@ -100,7 +101,7 @@ module _ (r : Registers) where
         events = ltb-false _ _ (o 5 (omega arith));
         dedicated = ltb-false _ _ (t .0);
         shared = ltb-false _ _ (t .1);
-        together = ltb-false _ _ (held-off _ (names 13 7 7) f);
+        together = ltb-false _ _ (held-off _ (plain 13) f);
       }
 
   within-most : Counted r → (i : ℕ) → i < 7 → over r i ≡ false
@@ -180,8 +181,8 @@ module _ (given : ℕ) (r : Registers) (words : ℕ) where
   to-legal e =
       let each = all-allowed (rules given r words) (sym verdict-rules ∙ e) in
       record {
-        memory = eqb-true words given (not-false (eqb words given) (held-off _ (names 10 7 7) (each 0)));
-        named = named r (not-false (allNamed r) (held-off _ (names 11 7 7) (each 1)));
+        memory = eqb-true words given (not-false (eqb words given) (held-off _ (plain 10) (each 0)));
+        named = named r (not-false (allNamed r) (held-off _ (plain 11) (each 1)));
         counted = counted r (each 2) (each 3);
         inside = inside r words (each 4);
         apart = apart r words (each 5);
@@ -191,10 +192,10 @@ module _ (given : ℕ) (r : Registers) (words : ℕ) where
   from-legal h = verdict-rules ∙ allowed-all (rules given r words) each
     where
       each : (k : ℕ) → k < 6 → getD (rules given r words) k allowed ≡ allowed
-      each zero l = let-pass (names 10 7 7) (ap not (eq-eqb words given (h .memory)))
-      each (suc zero) l = let-pass (names 11 7 7) (ap not (name r (h .named)))
+      each zero l = let-pass (plain 10) (ap not (eq-eqb words given (h .memory)))
+      each (suc zero) l = let-pass (plain 11) (ap not (name r (h .named)))
       each (suc (suc zero)) l = with-none 12 (over r) (within-most r (h .counted))
-      each (suc (suc (suc zero))) l = let-pass (names 13 7 7) (le-ltb 32 _ (h .counted .together))
+      each (suc (suc (suc zero))) l = let-pass (plain 13) (le-ltb 32 _ (h .counted .together))
       each (suc (suc (suc (suc zero)))) l = with-none 14 (past words (sectionsOf r)) (put-inside r words (h .inside))
       each (suc (suc (suc (suc (suc zero))))) l = put-apart r words (h .apart)
       each (suc (suc (suc (suc (suc (suc k)))))) l = absurd (omega arith)

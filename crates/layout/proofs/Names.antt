@@ -8,16 +8,16 @@ use borrow.Author.Tests.{ltb-true, ltb-false}
 use native.Mathlib.Omega.{arith}
 use lib.Dec.{eqb, ltb}
 use lib.ListN.{getD}
-use Rattle.words.specs.Fields.{bits}
 use Rattle.words.specs.Least.{leastFrom}
 use Rattle.words.specs.Rules.{allowed, refused, refuseIf}
 use Rattle.words.proofs.Lowest.{least-from, least-passes, least-below}
 use Rattle.words.proofs.Rulings.{first-refused, refused-by}
+use Rattle.shape.specs.Refusals.{Refusal, names}
+use Rattle.registers.specs.Fields.{txCount}
 use Rattle.registers.specs.Given.{allNamed}
 use Rattle.registers.specs.declared.Registers.{Registers}
 use Rattle.layout.specs.Sections.{none, sectionsOf}
-use Rattle.shape.specs.Refusals.{Refusal, names}
-use Rattle.layout.specs.Verdict.{over, firstWith, end, past, shares, partner, hasPartner, rules, verdict}
+use Rattle.layout.specs.Verdict.{plain, over, firstWith, end, past, shares, partner, hasPartner, rules, verdict}
 use Rattle.layout.specs.Promises.{CountNamesFirst, EndNamesFirst, OverlapNamesFirst}
 use Rattle.layout.proofs.Table.{Within, has-within, within-has, empty-or-some}
 use Rattle.layout.proofs.Accepted.{apart-words, shared-word, no-partner, verdict-rules}
@@ -27,10 +27,10 @@ number-of t b a e = ap (λ (x : Refusal). x .number) (refused-by t b a e .1)
 
 -- rule k refuses with number 10 + k
 numbered : (given : ℕ) (r : Registers) (words k : ℕ) (a : Refusal) → getD (rules given r words) k allowed ≡ refused a → 10 + k ≡ a .number
-numbered given r words zero a e = number-of (not (eqb words given)) (names 10 7 7) a e
-numbered given r words (suc zero) a e = number-of (not (allNamed r)) (names 11 7 7) a e
+numbered given r words zero a e = number-of (not (eqb words given)) (plain 10) a e
+numbered given r words (suc zero) a e = number-of (not (allNamed r)) (plain 11) a e
 numbered given r words (suc (suc zero)) a e = number-of (ltb (leastFrom (over r) 0 7) 7) (names 12 (leastFrom (over r) 0 7) 7) a e
-numbered given r words (suc (suc (suc zero))) a e = number-of (ltb 32 (bits 21 16 (r .txbc .word) + bits 29 24 (r .txbc .word))) (names 13 7 7) a e
+numbered given r words (suc (suc (suc zero))) a e = number-of (ltb 32 (txCount r)) (plain 13) a e
 numbered given r words (suc (suc (suc (suc zero)))) a e =
     number-of (ltb (leastFrom (past words (sectionsOf r)) 0 7) 7) (names 14 (leastFrom (past words (sectionsOf r)) 0 7) 7) a e
 numbered given r words (suc (suc (suc (suc (suc zero))))) a e =

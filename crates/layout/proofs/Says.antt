@@ -7,16 +7,16 @@ use mathlib.Core.List.{List, [], _∷_}
 use native.Mathlib.Omega.{arith}
 use borrow.Author.Tests.{eq-eqb, ne-eqb, lt-ltb, le-ltb, ltb-false}
 use lib.ListN.{getD}
-use Rattle.words.specs.Fields.{bits}
 use Rattle.words.specs.Least.{leastFrom}
 use Rattle.words.specs.Rules.{Ruling, allowed, refused, _orElse_, first}
 use Rattle.words.proofs.Lowest.{least-below}
 use Rattle.words.proofs.Rulings.{passed, halted, let-pass, turned-down}
+use Rattle.shape.specs.Refusals.{Refusal, names}
+use Rattle.registers.specs.Fields.{txCount}
 use Rattle.registers.specs.Given.{allNamed}
 use Rattle.registers.specs.declared.Registers.{Registers}
 use Rattle.layout.specs.Sections.{none, section, sectionsOf, overMost}
-use Rattle.shape.specs.Refusals.{Refusal, names}
-use Rattle.layout.specs.Verdict.{meaning, over, past, bitsRule, countRule, txRule, endRule, pairRule, verdict}
+use Rattle.layout.specs.Verdict.{plain, meaning, over, past, bitsRule, countRule, txRule, endRule, pairRule, verdict}
 use Rattle.layout.specs.declared.sections.Section.{Section}
 use Rattle.layout.specs.declared.check.Verdict.{Verdict}
 use Rattle.layout.specs.declared.check.Verdict.the-variants.{WrongMemory, UnnamedBit, CountOver, TxOver, PastMemory}
@@ -63,20 +63,20 @@ alone (refused a) = refl
 module _ (given : ℕ) (r : Registers) (len : ℕ) where
   pub says-10 : (len ≡ given → ⊥) → meaning WrongMemory ≡ verdict given r len
   unfolding verdict
-  says-10 h = sym (halted (from11 r len) (turned-down (names 10 7 7) (ap not (ne-eqb len given h))))
+  says-10 h = sym (halted (from11 r len) (turned-down (plain 10) (ap not (ne-eqb len given h))))
 
   module _ (a : len ≡ given) where
     at-11 : verdict given r len ≡ from11 r len
     unfolding verdict
-    at-11 = passed (from11 r len) (let-pass (names 10 7 7) (ap not (eq-eqb len given a)))
+    at-11 = passed (from11 r len) (let-pass (plain 10) (ap not (eq-eqb len given a)))
 
     module _ (b : Bool) (p : b ≡ allNamed r) where
       pub says-11 : b ≡ false → meaning UnnamedBit ≡ verdict given r len
-      says-11 e = sym (at-11 ∙ halted (from12 r len) (turned-down (names 11 7 7) (ap not (sym p ∙ e))))
+      says-11 e = sym (at-11 ∙ halted (from12 r len) (turned-down (plain 11) (ap not (sym p ∙ e))))
 
       module _ (e : b ≡ true) where
         at-12 : verdict given r len ≡ from12 r len
-        at-12 = at-11 ∙ passed (from12 r len) (let-pass (names 11 7 7) (ap not (sym p ∙ e)))
+        at-12 = at-11 ∙ passed (from12 r len) (let-pass (plain 11) (ap not (sym p ∙ e)))
 
         module _ (flags : List Bool) (f : flags ≡ overMost r) (n : ℕ) (g : n ≡ leastFrom (trueAt flags) 0 7) where
           q : n ≡ leastFrom (over r) 0 7
@@ -91,16 +91,16 @@ module _ (given : ℕ) (r : Registers) (len : ℕ) where
             at-13 : verdict given r len ≡ from13 r len
             at-13 = at-12 ∙ passed (from13 r len) (let-pass (names 12 (leastFrom (over r) 0 7) 7) (le-ltb (leastFrom (over r) 0 7) 7 (omega (arith, q))))
 
-            module _ (d s : ℕ) (u : d ≡ bits 21 16 (r .txbc .word)) (v : s ≡ bits 29 24 (r .txbc .word)) where
-              pub says-13 : 32 < d + s → meaning TxOver ≡ verdict given r len
-              says-13 l = sym (at-13 ∙ halted (from14 r len) (turned-down (names 13 7 7) (lt-ltb 32 (bits 21 16 (r .txbc .word) + bits 29 24 (r .txbc .word)) (omega arith))))
+            module _ (t : ℕ) (u : t ≡ txCount r) where
+              pub says-13 : 32 < t → meaning TxOver ≡ verdict given r len
+              says-13 l = sym (at-13 ∙ halted (from14 r len) (turned-down (plain 13) (lt-ltb 32 (txCount r) (omega arith))))
 
-              module _ (l : d + s ≤ 32) (ss : List Section) (t : ss ≡ sectionsOf r) (m : ℕ) (w : m ≡ leastFrom (past len ss) 0 7) where
+              module _ (l : t ≤ 32) (ss : List Section) (z : ss ≡ sectionsOf r) (m : ℕ) (w : m ≡ leastFrom (past len ss) 0 7) where
                 at-14 : verdict given r len ≡ from14 r len
-                at-14 = at-13 ∙ passed (from14 r len) (let-pass (names 13 7 7) (le-ltb 32 (bits 21 16 (r .txbc .word) + bits 29 24 (r .txbc .word)) (omega arith)))
+                at-14 = at-13 ∙ passed (from14 r len) (let-pass (plain 13) (le-ltb 32 (txCount r) (omega arith)))
 
                 first-past : m ≡ leastFrom (past len (sectionsOf r)) 0 7
-                first-past = w ∙ ap (λ (x : List Section). leastFrom (past len x) 0 7) t
+                first-past = w ∙ ap (λ (x : List Section). leastFrom (past len x) 0 7) z
 
                 pub says-14 : m < 7 → meaning (PastMemory m) ≡ verdict given r len
                 says-14 k =
@@ -108,9 +108,9 @@ module _ (given : ℕ) (r : Registers) (len : ℕ) where
                     ∙ sym (at-14 ∙ halted (from15 r) (turned-down (names 14 (leastFrom (past len (sectionsOf r)) 0 7) 7) (lt-ltb (leastFrom (past len (sectionsOf r)) 0 7) 7 (omega (arith, first-past)))))
 
                 pub says-15 : 7 ≤ m → (x : Verdict) → meaning x ≡ pairRule ss → meaning x ≡ verdict given r len
-                says-15 k x z =
-                    z
-                    ∙ ap pairRule t
+                says-15 k x y =
+                    y
+                    ∙ ap pairRule z
                     ∙ sym
                     (at-14
                     ∙ passed (from15 r) (let-pass (names 14 (leastFrom (past len (sectionsOf r)) 0 7) 7) (le-ltb (leastFrom (past len (sectionsOf r)) 0 7) 7 (omega (arith, first-past))))

@@ -11,8 +11,8 @@ use native.Mathlib.Omega.{arith}
 use Rattle.words.specs.Least.{leastFrom}
 use Rattle.words.specs.Rules.{refused, refuseIf}
 use Rattle.words.proofs.Lowest.{look-found, look-on, look-done}
-use Rattle.layout.specs.Sections.{none}
 use Rattle.shape.specs.Refusals.{names}
+use Rattle.layout.specs.Sections.{none}
 use Rattle.layout.specs.Verdict.{meaning, end, past, shares, partner, hasPartner, pairRule}
 use Rattle.layout.specs.declared.sections.Section.{Section}
 use Rattle.layout.specs.declared.check.Verdict.{Verdict}

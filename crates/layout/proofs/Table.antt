@@ -11,13 +11,14 @@ use native.Mathlib.Omega.{arith}
 use lib.Dec.{eqb, eqb→eq}
 use lib.ListN.{getD, List·getD-map}
 use Rattle.words.specs.Choice.{pick}
-use Rattle.words.specs.Fields.{bits}
 use Rattle.words.proofs.Tables.{every, every-at}
 use Rattle.frame.specs.Sizes.{elementWords}
+use Rattle.registers.specs.Fields.{fifoStart, fifoSize, fifoCode, buffersStart, buffers, bufferCode, txStart, txCount, txCode}
+use Rattle.registers.proofs.Fifos.{code-lt}
 use Rattle.registers.specs.declared.Registers.{Registers}
-use Rattle.layout.specs.Sections.{none, section, sidfcSection, xidfcSection, txefcSection, sectionsOf}
+use Rattle.layout.specs.Sections.{none, section, filters11Section, filters29Section, eventSection, sectionsOf}
 use Rattle.layout.specs.Verdict.{end}
-use Rattle.layout.specs.Legal.{wordsBySize, Row, row, table, Has}
+use Rattle.layout.specs.Legal.{wordsBySize, SectionRow, sectionRow, sectionTable, rowOf, Has}
 use Rattle.layout.specs.declared.sections.Section.{Section}
 
 -- the two tables of sizes agree
@@ -26,35 +27,35 @@ unfolding every
 sizes-agree code h =
     eqb→eq (wordsBySize code) (elementWords code) (every-at (λ i x. eqb (wordsBySize i) x) (4 ∷ 5 ∷ 6 ∷ 7 ∷ 8 ∷ 10 ∷ 14 ∷ 18 ∷ []) tt code h)
 
-ofRow : Row → Section
+ofRow : SectionRow → Section
 ofRow w = section (w .start) (w .count) (w .each)
 
 -- the sections, with the words of the elements of four of them to be set
 lay : Registers → ℕ → ℕ → ℕ → ℕ → List Section
-lay r fifo0 fifo1 buffers tx =
-    sidfcSection (r .sidfc .word)
-    ∷ xidfcSection (r .xidfc .word)
-    ∷ section (bits 15 2 (r .rxf0c .word)) (bits 22 16 (r .rxf0c .word)) fifo0
-    ∷ section (bits 15 2 (r .rxf1c .word)) (bits 22 16 (r .rxf1c .word)) fifo1
-    ∷ section (bits 15 2 (r .rxbc .word)) (r .buffers) buffers
-    ∷ txefcSection (r .txefc .word)
-    ∷ section (bits 15 2 (r .txbc .word)) (bits 21 16 (r .txbc .word) + bits 29 24 (r .txbc .word)) tx
+lay r fifo0 fifo1 rx tx =
+    filters11Section r
+    ∷ filters29Section r
+    ∷ section (fifoStart r 0) (fifoSize r 0) fifo0
+    ∷ section (fifoStart r 1) (fifoSize r 1) fifo1
+    ∷ section (buffersStart r) (buffers r) rx
+    ∷ eventSection r
+    ∷ section (txStart r) (txCount r) tx
     ∷ []
 
 module _ (r : Registers) where
-  sections-rows : map ofRow (table r) ≡ sectionsOf r
+  sections-rows : map ofRow (sectionTable r) ≡ sectionsOf r
   unfolding ofRow lay
   sections-rows =
-      let a = sizes-agree (bits 2 0 (r .rxesc .word)) (omega arith) in
-      let b = sizes-agree (bits 6 4 (r .rxesc .word)) (omega arith) in
-      let c = sizes-agree (bits 10 8 (r .rxesc .word)) (omega arith) in
-      let d = sizes-agree (bits 2 0 (r .txesc .word)) (omega arith) in
+      let a = sizes-agree (fifoCode r 0) (code-lt r 0) in
+      let b = sizes-agree (fifoCode r 1) (code-lt r 1) in
+      let c = sizes-agree (bufferCode r) (omega arith) in
+      let d = sizes-agree (txCode r) (omega arith) in
       λ i. lay r (a i) (b i) (c i) (d i)
 
   -- section i, from its row
-  pub section-row : (i : ℕ) → getD (sectionsOf r) i none ≡ section (getD (table r) i (row 0 0 0) .start) (getD (table r) i (row 0 0 0) .count) (getD (table r) i (row 0 0 0) .each)
+  pub section-row : (i : ℕ) → getD (sectionsOf r) i none ≡ section (rowOf r i .start) (rowOf r i .count) (rowOf r i .each)
   unfolding ofRow section
-  section-row i = ap (λ (ss : List Section). getD ss i none) (sym sections-rows) ∙ List·getD-map ofRow (table r) i (row 0 0 0)
+  section-row i = ap (λ (ss : List Section). getD ss i none) (sym sections-rows) ∙ List·getD-map ofRow (sectionTable r) i (sectionRow 0 0 0)
 
 -- a section's words are those of its elements
 pub section-words : (start count each : ℕ) → section start count each .words ≡ count * each
@@ -104,10 +105,7 @@ module _ (r : Registers) where
   pub within-has : (i k : ℕ) → Within (getD (sectionsOf r) i none) k → Has r i k
   within-has i k w = let p = without _ _ _ k (subst (λ (s : Section). Within s k) (section-row r i) w) in record { from = p .0; below = p .1 }
 
-  sized : (code : ℕ) → code < 8 → 0 < wordsBySize code
-  sized code h = omega arith
-
-  each-some : (i : ℕ) → i < 7 → 0 < getD (table r) i (row 0 0 0) .each
+  each-some : (i : ℕ) → i < 7 → 0 < rowOf r i .each
   each-some zero h = omega arith
   each-some (suc zero) h = omega arith
   each-some (suc (suc zero)) h = omega arith

@@ -4,8 +4,8 @@ use mathlib.Core.Path.{_≡_}
 use mathlib.Core.Bool.{true, false}
 use mathlib.Core.Logic.{_↔_}
 use Rattle.words.specs.Rules.{allowed, refused}
-use Rattle.registers.specs.declared.Registers.{Registers}
 use Rattle.shape.specs.Refusals.{names}
+use Rattle.registers.specs.declared.Registers.{Registers}
 use Rattle.layout.specs.Verdict.{meaning, over, verdict}
 use Rattle.layout.specs.Legal.{Has, Legal}
 use Rattle.layout.specs.declared.check.Verdict.{Verdict}

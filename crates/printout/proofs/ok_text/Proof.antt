@@ -21,9 +21,6 @@ loop-holds c = (search needs, search needs, search (no-rows, needs), search need
 loop-again : tie.Need-loop-again Inv-loop μ-loop
 loop-again c = (search needs, search needs, search (one-more-row, needs), search needs)
 
-returns : tie.Need-returns Inv-loop μ-loop
-returns c = (search (ok-told, needs), search needs)
-
 pub ok-text-spec : {M : Type 1} → statement M
 ok-text-spec =
     tie.close
@@ -35,4 +32,4 @@ ok-text-spec =
     (λ c. search needs) (λ c. search needs) (λ c. search needs) (λ c. search needs) (λ c κs. search needs)
     (λ c. search needs) (λ c. search needs)
     loop-again
-    returns)
+    (λ c. (search (ok-told, needs), search needs)))

@@ -4,8 +4,5 @@ use borrow.Author.Needs.{needs}
 use Rattle.printout.proofs.text.Text.push.Statement.{statement}
 use Rattle.printout.proofs.text.Text.push.Tie as tie
 
-returns : tie.Need-returns
-returns c = (search (byte-pushed, needs), refl)
-
 pub push-spec : {M : Type 1} → statement M
-push-spec = tie.close (tie.spec (λ c. search needs) (λ c. search needs) returns)
+push-spec = tie.close (tie.spec (λ c. search needs) (λ c. search needs) (λ c. (search (byte-pushed, needs), refl)))

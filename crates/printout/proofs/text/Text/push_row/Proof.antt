@@ -3,13 +3,10 @@ use borrow.Author.Needs.{needs}
 use Rattle.printout.proofs.text.Text.push_row.Statement.{statement}
 use Rattle.printout.proofs.text.Text.push_row.Tie as tie
 
-returns : tie.Need-returns
-returns c = (search (row-pushed, needs), search needs)
-
 pub push-row-spec : {M : Type 1} → statement M
 push-row-spec =
     tie.close
     (tie.spec
     (λ c κs. search needs) (λ c κs. search needs) (λ c κs. search needs) (λ c κs. search needs) (λ c κs. search needs)
     (λ c κs. search needs)
-    returns)
+    (λ c. (search (row-pushed, needs), search needs)))

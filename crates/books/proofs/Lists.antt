@@ -3,13 +3,13 @@
 use Prim.Native.Nat.{ℕ, zero, suc, _+_, _≤_, _<_}
 use mathlib.Core.Path.{_≡_, refl, sym, ap, _∙_}
 use mathlib.Core.Bool.{Bool, true, false, not}
-use mathlib.Core.List.{List, [], _∷_, _++_}
+use mathlib.Core.List.{List, [], _∷_, _++_, map}
 use native.Mathlib.Omega.{arith}
 use lib.Dec.{eqb}
 use lib.ListN.{length, take, drop, getD, take-append-drop}
 use borrow.Author.Tests.{ne-eqb, eqb-true, eqb-false}
 use Rattle.words.specs.Choice.{pick}
-use Rattle.ledger.specs.Lists.{tally, those, others, Each, isNumber, Numbered, Rising}
+use Rattle.books.specs.Lists.{tally, those, others, Each, isNumber, Numbered, Rising}
 
 module _ {A : Type 0} where
   pub length-snoc : (xs : List A) (x : A) → length (xs ++ x ∷ []) ≡ suc (length xs)
@@ -64,7 +64,8 @@ module _ {A : Type 0} where
     those-append [] ys = refl
     those-append (x ∷ xs) ys = go (q x) (those-append xs ys)
       where
-        go : (b : Bool) → those q (xs ++ ys) ≡ those q xs ++ those q ys → pick b (x ∷ those q (xs ++ ys)) (those q (xs ++ ys)) ≡ pick b (x ∷ those q xs) (those q xs) ++ those q ys
+        go : (b : Bool) → those q (xs ++ ys) ≡ those q xs ++ those q ys
+            → pick b (x ∷ those q (xs ++ ys)) (those q (xs ++ ys)) ≡ pick b (x ∷ those q xs) (those q xs) ++ those q ys
         go true ih = ap (λ (r : List A). x ∷ r) ih
         go false ih = ih
 
@@ -73,7 +74,8 @@ module _ {A : Type 0} where
     length-those [] = refl
     length-those (x ∷ xs) = go (q x) (length-those xs)
       where
-        go : (b : Bool) → length (those q xs) ≡ tally q xs → length (pick b (x ∷ those q xs) (those q xs)) ≡ pick b 1 0 + tally q xs
+        go : (b : Bool) → length (those q xs) ≡ tally q xs
+            → length (pick b (x ∷ those q xs) (those q xs)) ≡ pick b 1 0 + tally q xs
         go true ih = omega arith
         go false ih = omega arith
 
@@ -99,7 +101,8 @@ module _ {A : Type 0} where
     each-passes [] = tt
     each-passes (x ∷ xs) = go (q x) refl (each-passes xs)
       where
-        go : (b : Bool) → q x ≡ b → Each (λ x. q x ≡ true) (those q xs) → Each (λ x. q x ≡ true) (pick b (x ∷ those q xs) (those q xs))
+        go : (b : Bool) → q x ≡ b → Each (λ x. q x ≡ true) (those q xs)
+            → Each (λ x. q x ≡ true) (pick b (x ∷ those q xs) (those q xs))
         go true e ih = (e, ih)
         go false e ih = ih
 
@@ -113,7 +116,8 @@ module _ {A : Type 0} where
         go false ih = ih
 
     -- where none passes, what follows for those that do not
-    pub each-unless : (P Q : A → Type 0) (xs : List A) → tally q xs ≡ 0 → ((x : A) → q x ≡ false → P x → Q x) → Each P xs → Each Q xs
+    pub each-unless : (P Q : A → Type 0) (xs : List A) → tally q xs ≡ 0
+        → ((x : A) → q x ≡ false → P x → Q x) → Each P xs → Each Q xs
     unfolding tally
     each-unless P Q [] z f e = tt
     each-unless P Q (x ∷ xs) z f e = go (q x) refl (each-unless P Q xs (omega arith) f (e .1))
@@ -121,18 +125,6 @@ module _ {A : Type 0} where
         go : (b : Bool) → q x ≡ b → Each Q xs → Q x × Each Q xs
         go true y ih = absurd (omega (arith, ap (λ (b : Bool). pick {A = ℕ} b 1 0) y))
         go false n ih = (f x n (e .0), ih)
-
-  -- the first passes, and none behind it
-  module _ (q : A → Bool) (d : A) where
-    pub those-first : (xs : List A) → q (getD xs 0 d) ≡ true → Each (λ x. q x ≡ false) (drop 1 xs) → those q xs ≡ take 1 xs
-    unfolding those
-    those-first [] y e = refl
-    those-first (x ∷ xs) y e = rw y (ap (λ (r : List A). x ∷ r) (those-none q xs e))
-
-    pub others-first : (xs : List A) → q (getD xs 0 d) ≡ true → Each (λ x. q x ≡ false) (drop 1 xs) → others q xs ≡ drop 1 xs
-    unfolding those
-    others-first [] y e = refl
-    others-first (x ∷ xs) y e = rw y (those-all (λ x. not (q x)) xs (each-map (λ x. q x ≡ false) (λ x. not (q x) ≡ true) xs (λ x n. ap not n) e))
 
   -- ---- two tests
 
@@ -143,7 +135,8 @@ module _ {A : Type 0} where
     tally-split (x ∷ xs) = go (p x) (tally-split xs)
       where
         go : (b : Bool) → tally q (those p xs) + tally q (others p xs) ≡ tally q xs
-            → tally q (pick b (x ∷ those p xs) (those p xs)) + tally q (pick (not b) (x ∷ others p xs) (others p xs)) ≡ pick (q x) 1 0 + tally q xs
+            → tally q (pick b (x ∷ those p xs) (those p xs)) + tally q (pick (not b) (x ∷ others p xs) (others p xs))
+            ≡ pick (q x) 1 0 + tally q xs
         go true ih = omega arith
         go false ih = omega arith
 
@@ -173,16 +166,47 @@ module _ {A : Type 0} where
     pub those-apart : those q (others p xs) ≡ those q xs
     those-apart =
         those-those q (λ x. not (p x)) xs
-        ∙ those-all (λ x. not (p x)) (those q xs) (each-map (λ x. q x ≡ true) (λ x. not (p x) ≡ true) (those q xs) (λ x. go (p x) (apart x)) (each-passes q xs))
+        ∙ those-all (λ x. not (p x)) (those q xs)
+        (each-map (λ x. q x ≡ true) (λ x. not (p x) ≡ true) (those q xs) (λ x. go (p x) (apart x)) (each-passes q xs))
       where
         go : {x : A} (t : Bool) → (t ≡ true → q x ≡ false) → q x ≡ true → not t ≡ true
         go true f y = sym (f refl) ∙ y
         go false f y = refl
 
+-- ---- members seen by what f gives of them
+
+module _ {A B : Type 0} (f : A → B) (q : B → Bool) where
+  pub tally-seen : (xs : List A) → tally q (map f xs) ≡ tally (λ x. q (f x)) xs
+  unfolding tally
+  tally-seen [] = refl
+  tally-seen (x ∷ xs) = ap (λ (n : ℕ). pick (q (f x)) 1 0 + n) (tally-seen xs)
+
+  none-seen : (xs : List A) → Each (λ y. q y ≡ false) (map f xs) → Each (λ x. q (f x) ≡ false) xs
+  none-seen [] e = tt
+  none-seen (x ∷ xs) e = (e .0, none-seen xs (e .1))
+
+  -- the first passes, and none behind it
+  module _ (d : B) where
+    pub those-first : (xs : List A) → q (getD (map f xs) 0 d) ≡ true → Each (λ y. q y ≡ false) (drop 1 (map f xs))
+        → those (λ x. q (f x)) xs ≡ take 1 xs
+    unfolding those
+    those-first [] y e = refl
+    those-first (x ∷ xs) y e = rw y (ap (λ (r : List A). x ∷ r) (those-none (λ x. q (f x)) xs (none-seen xs e)))
+
+    pub others-first : (xs : List A) → q (getD (map f xs) 0 d) ≡ true → Each (λ y. q y ≡ false) (drop 1 (map f xs))
+        → others (λ x. q (f x)) xs ≡ drop 1 xs
+    unfolding those
+    others-first [] y e = refl
+    others-first (x ∷ xs) y e =
+        rw y
+        (those-all (λ x. not (q (f x))) xs
+        (each-map (λ x. q (f x) ≡ false) (λ x. not (q (f x)) ≡ true) xs (λ x n. ap not n) (none-seen xs e)))
+
 -- ---- numbers
 
 module _ {A : Type 0} (number : A → ℕ) where
-  pub numbered-snoc : (lo : ℕ) (xs : List A) (x : A) → Numbered number lo xs → number x ≡ lo + length xs → Numbered number lo (xs ++ x ∷ [])
+  pub numbered-snoc : (lo : ℕ) (xs : List A) (x : A) → Numbered number lo xs → number x ≡ lo + length xs
+      → Numbered number lo (xs ++ x ∷ [])
   numbered-snoc lo [] x s h = (omega arith, tt)
   numbered-snoc lo (y ∷ xs) x s h = (s .0, numbered-snoc (suc lo) xs x (s .1) (omega arith))
 
@@ -190,9 +214,11 @@ module _ {A : Type 0} (number : A → ℕ) where
   numbered-below : (lo : ℕ) (xs : List A) (n : ℕ) → Numbered number lo xs → n < lo → tally (isNumber number n) xs ≡ 0
   unfolding tally
   numbered-below lo [] n s h = refl
-  numbered-below lo (x ∷ xs) n s h = rw (ne-eqb (number x) n (omega arith)) (omega (arith, numbered-below (suc lo) xs n (s .1) (omega arith)))
+  numbered-below lo (x ∷ xs) n s h =
+      rw (ne-eqb (number x) n (omega arith)) (omega (arith, numbered-below (suc lo) xs n (s .1) (omega arith)))
 
-  pub numbered-once : (lo : ℕ) (xs : List A) (n : ℕ) → Numbered number lo xs → lo ≤ n → n < lo + length xs → tally (isNumber number n) xs ≡ 1
+  pub numbered-once : (lo : ℕ) (xs : List A) (n : ℕ) → Numbered number lo xs → lo ≤ n → n < lo + length xs
+      → tally (isNumber number n) xs ≡ 1
   unfolding tally
   numbered-once lo [] n s h l = absurd (omega arith)
   numbered-once lo (x ∷ xs) n s h l = go (eqb (number x) n) refl (numbered-once (suc lo) xs n (s .1))
@@ -204,16 +230,20 @@ module _ {A : Type 0} (number : A → ℕ) where
           let ne : ¬ (number x ≡ n) = eqb-false (number x) n e in
           rw e (omega (arith, ih (omega arith) (omega arith)))
 
-  pub rising-snoc : (lo : ℕ) (xs : List A) (x : A) (hi : ℕ) → Rising number lo xs hi → hi ≤ number x → Rising number lo (xs ++ x ∷ []) (suc (number x))
+  pub rising-snoc : (lo : ℕ) (xs : List A) (x : A) (hi : ℕ) → Rising number lo xs hi → hi ≤ number x
+      → Rising number lo (xs ++ x ∷ []) (suc (number x))
   rising-snoc lo [] x hi r h = (omega arith, omega arith)
   rising-snoc lo (y ∷ xs) x hi r h = (r .0, rising-snoc (suc (number y)) xs x hi (r .1) h)
 
-  pub rising-wider : (lo lo′ : ℕ) (xs : List A) (hi hi′ : ℕ) → lo′ ≤ lo → hi ≤ hi′ → Rising number lo xs hi → Rising number lo′ xs hi′
+  pub rising-wider : (lo lo′ : ℕ) (xs : List A) (hi hi′ : ℕ) → lo′ ≤ lo → hi ≤ hi′
+      → Rising number lo xs hi → Rising number lo′ xs hi′
   rising-wider lo lo′ [] hi hi′ a b r = omega arith
-  rising-wider lo lo′ (x ∷ xs) hi hi′ a b r = (omega arith, rising-wider (suc (number x)) (suc (number x)) xs hi hi′ (omega arith) b (r .1))
+  rising-wider lo lo′ (x ∷ xs) hi hi′ a b r =
+      let n = suc (number x) in (omega arith, rising-wider n n xs hi hi′ (omega arith) b (r .1))
 
   -- with some taken out of the middle
-  pub rising-cut : (lo : ℕ) (xs ys : List A) (hi n : ℕ) → Rising number lo (xs ++ ys) hi → Rising number lo (xs ++ drop n ys) hi
+  pub rising-cut : (lo : ℕ) (xs ys : List A) (hi n : ℕ) → Rising number lo (xs ++ ys) hi
+      → Rising number lo (xs ++ drop n ys) hi
   rising-cut lo [] ys hi zero r = r
   rising-cut lo [] [] hi (suc n) r = r
   rising-cut lo [] (y ∷ ys) hi (suc n) r =

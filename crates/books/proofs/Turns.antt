@@ -9,12 +9,14 @@ use Rattle.ring.specs.declared.Ring.{Ring}
 use Rattle.ring.proofs.Circle.{place-zero, place-round, place-released}
 
 -- the place after one that is n in turn is n + 1 in turn
-pub next-in-turn : (q : Ring) (size i n : ℕ) → placeAfter q size i ≡ n % size → placeAfter q size (i + 1) ≡ (n + 1) % size
+pub next-in-turn : (q : Ring) (size i n : ℕ) → placeAfter q size i ≡ n % size
+    → placeAfter q size (i + 1) ≡ (n + 1) % size
 unfolding placeAfter
 next-in-turn q size i n e = sym (place-released q size i 1) ∙ rw e (mod-add-mod n size 1)
 
 -- where the next place is that of the n-th in turn, the oldest place is that of the one so many before it as are held
-pub oldest-in-turn : (q : Ring) (size n : ℕ) → Fit q size → putPlace q size ≡ n % size → q .fill ≤ n → q .oldest ≡ (n - q .fill) % size
+pub oldest-in-turn : (q : Ring) (size n : ℕ) → Fit q size → putPlace q size ≡ n % size → q .fill ≤ n
+    → q .oldest ≡ (n - q .fill) % size
 unfolding placeAfter
 oldest-in-turn q size n fit t some =
     let f : ℕ = size - q .fill in

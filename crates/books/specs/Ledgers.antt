@@ -1,14 +1,13 @@
--- The history's own book of one ring of elements, FIFO 0, FIFO 1 or the event list: kept from calls and answers alone.
+-- The history's own book of one ring of elements: kept from calls and answers alone.
 use Prim.Native.Nat.{ℕ, suc, _-_, _%_}
 use mathlib.Core.Bool.{Bool, true, false, not, _&&_, _||_}
 use mathlib.Core.List.{List, [], _∷_, _++_}
 use lib.Dec.{eqb}
 use lib.ListN.{length, take, drop}
 use Rattle.words.specs.Choice.{pick}
-use Rattle.engine.specs.declared.keeping.Keeper.{Keeper}
-use Rattle.engine.specs.declared.keeping.Slot.{Slot}
-use Rattle.engine.specs.declared.keeping.Slot.the-variants.{At, Lost}
-use Rattle.ledger.specs.Lists.{tally}
+use Rattle.places.specs.declared.Slot.{Slot}
+use Rattle.places.specs.declared.Slot.the-variants.{At, Lost}
+use Rattle.books.specs.Lists.{tally}
 
 -- one that arrived: its number, the words of its element, and the slot that the answer named
 pub record Entry : Type 0 where
@@ -57,24 +56,24 @@ entryAt p (e ∷ es) = pick (isAt p (e .slot)) e (entryAt p es)
 abbrev pub isHeldAt : ℕ → Ledger → Bool
 isHeldAt p l = among p (l .held)
 
--- ---- an arrival
+-- ---- an arrival, in a ring of some size
 
-abbrev pub isFull : Keeper → Ledger → Bool
-isFull k l = eqb (length (l .held)) (k .size)
+abbrev pub isFull : ℕ → Ledger → Bool
+isFull size l = eqb (length (l .held)) size
 
 -- how many of the oldest give way to one that is stored
-abbrev pub givenWay : Keeper → Ledger → ℕ
-givenWay k l = pick (isFull k l) 1 0
+abbrev pub givenWay : ℕ → Ledger → ℕ
+givenWay size l = pick (isFull size l) 1 0
 
 -- a new one that is stored is held, the youngest, and an oldest that gave way to it is lost; or the new one is lost
-unfoldable pub noteArrival : Keeper → Ledger → List ℕ → Slot → Ledger
-noteArrival k l ws (At p) = record {
+unfoldable pub noteArrival : ℕ → Ledger → List ℕ → Slot → Ledger
+noteArrival size l ws (At p) = record {
   arrived = l .arrived ++ newEntry l ws (At p) ∷ [];
   released = l .released;
-  held = drop (givenWay k l) (l .held) ++ newEntry l ws (At p) ∷ [];
-  lost = l .lost ++ take (givenWay k l) (l .held);
+  held = drop (givenWay size l) (l .held) ++ newEntry l ws (At p) ∷ [];
+  lost = l .lost ++ take (givenWay size l) (l .held);
 }
-noteArrival k l ws Lost = record {
+noteArrival size l ws Lost = record {
   arrived = l .arrived ++ newEntry l ws Lost ∷ [];
   released = l .released;
   held = l .held;
@@ -90,28 +89,33 @@ reaching p (e ∷ es) = pick (among p (e ∷ es)) (suc (reaching p es)) 0
 
 -- the n oldest that are held are released
 unfoldable pub releaseOldest : Ledger → ℕ → Ledger
-releaseOldest l n = record { arrived = l .arrived; released = l .released ++ take n (l .held); held = drop n (l .held); lost = l .lost }
+releaseOldest l n = record {
+  arrived = l .arrived;
+  released = l .released ++ take n (l .held);
+  held = drop n (l .held);
+  lost = l .lost;
+}
 
 -- each one that is held is released where it, or a younger one, is acknowledged
 abbrev pub noteRelease : Ledger → ℕ → Ledger
 noteRelease l p = releaseOldest l (reaching p (l .held))
 
--- ---- what the rules answer, told from the book
+-- ---- what the rules answer, told from the book and the ring's size and mode
 
 abbrev pub storedSoFar : Ledger → ℕ
 storedSoFar l = tally (λ e. isStored (e .slot)) (l .arrived)
 
 -- those that are stored take the places in turn, so the next goes here
-abbrev pub expectPut : Keeper → Ledger → ℕ
-expectPut k l = storedSoFar l % k .size
+abbrev pub expectPut : ℕ → Ledger → ℕ
+expectPut size l = storedSoFar l % size
 
 -- and the oldest held one went here; where none is held, the next will
-abbrev pub expectOldest : Keeper → Ledger → ℕ
-expectOldest k l = (storedSoFar l - length (l .held)) % k .size
+abbrev pub expectOldest : ℕ → Ledger → ℕ
+expectOldest size l = (storedSoFar l - length (l .held)) % size
 
 -- a full ring that does not overwrite, and any of size 0, loses a new one
-abbrev pub isBlocking : Keeper → Bool
-isBlocking k = not (k .overwrites) || eqb (k .size) 0
+abbrev pub isBlocking : ℕ → Bool → Bool
+isBlocking size overwrites = eqb size 0 || not overwrites
 
-unfoldable pub expectSlot : Keeper → Ledger → Slot
-expectSlot k l = pick (isFull k l && isBlocking k) Lost (At (expectPut k l))
+unfoldable pub expectSlot : ℕ → Bool → Ledger → Slot
+expectSlot size overwrites l = pick (isFull size l && isBlocking size overwrites) Lost (At (expectPut size l))

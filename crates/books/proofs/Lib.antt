@@ -1,7 +1,5 @@
 pub mod Lists
 pub mod Balances
-pub mod Stores
-pub mod Sections
 pub mod Holding
 pub mod Turns
 pub mod Arrivals
@@ -9,3 +7,6 @@ pub mod Places
 pub mod Releases
 pub mod Seen
 pub mod Runs
+pub mod Requests
+pub mod Buffers
+pub mod Circles
