@@ -18,9 +18,10 @@ use Rattle.areas.specs.Areas.{txArea, dataWords}
 use Rattle.shape.specs.Calls.{Says, refuses, answers, effect, call}
 use Rattle.shape.specs.Refusals.{Refusals}
 use Rattle.engine.specs.Answers.{told}
+use Rattle.engine.specs.Buffers.{isPending}
 use Rattle.engine.specs.Calls.{World, Outcome, Effect, _when_, isUnfit, outputRefusals}
 use Rattle.engine.specs.declared.state.State.{State}
-use Rattle.choosing.specs.Buffers.{isPending, headerOf}
+use Rattle.choosing.specs.Buffers.{headerOf}
 use Rattle.choosing.specs.declared.asking.Chosen.{Chosen}
 use Rattle.choosing.specs.declared.asking.ChoiceAnswer.{ChoiceAnswer}
 use Rattle.choosing.specs.declared.asking.ChoiceAnswer.the-variants.{Nothing, Send, Refused}

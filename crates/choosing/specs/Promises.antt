@@ -8,10 +8,10 @@ use Rattle.words.specs.Best.{nobody, somebody, AsGood}
 use Rattle.words.specs.Ranges.{Range, Inside}
 use Rattle.registers.specs.Fields.{dedicated, txCount, isQueue}
 use Rattle.areas.specs.Own.{SameSections}
+use Rattle.engine.specs.Buffers.{isPending}
 use Rattle.engine.specs.Calls.{World, withMemory, Alike}
 use Rattle.engine.specs.Fitness.{Sound}
 use Rattle.engine.specs.declared.state.State.{State}
-use Rattle.choosing.specs.Buffers.{isPending}
 use Rattle.choosing.specs.Choosing.{isCandidate, rankAt, choice, askChoice}
 
 -- the paper's candidates, one constructor for each kind of buffer

@@ -1,7 +1,11 @@
 pub mod Cases
 pub mod Unfitness
 pub mod Sounds
+pub mod Parts
+pub mod Buffers
 pub mod Calls
+pub mod Alike
 pub mod Replies
 pub mod Keeps
+pub mod Records
 pub mod Fits
