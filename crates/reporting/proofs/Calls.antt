@@ -21,8 +21,8 @@ use Rattle.engine.specs.declared.state.Record.{Record}
 use Rattle.engine.proofs.Calls.{judged-done}
 use Rattle.choosing.specs.Buffers.{headerOf}
 use Rattle.choosing.specs.Choosing.{sentFrame}
-use Rattle.reporting.specs.Reporting.{sharedSent, sentState, sentRecord, reportRefusals, afterSend, eventKept, eventDue, reports, reportSent}
-use Rattle.reporting.specs.Needs.{sentWith}
+use Rattle.reporting.specs.Reporting.{sharedSent, sentWith, reportRefusals, afterSend, eventKept, eventDue}
+use Rattle.reporting.specs.Reporting.{reports, reportSent}
 use Rattle.reporting.proofs.Sends.{sent-is}
 
 -- ---- what the code does

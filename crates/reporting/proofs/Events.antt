@@ -8,7 +8,7 @@ use native.Mathlib.Omega.{arith}
 use Rattle.words.specs.Runs.{splice}
 use Rattle.ring.specs.declared.Ring.{Ring}
 use Rattle.frame.specs.declared.Frame.{Frame}
-use Rattle.registers.specs.Fields.{eventSize}
+use Rattle.registers.specs.Fields.{txCount}
 use Rattle.element.specs.Elements.{eventElement}
 use Rattle.element.specs.Fitting.{InFields}
 use Rattle.element.specs.declared.TxHeader.{TxHeader}
@@ -32,7 +32,7 @@ use Rattle.engine.proofs.Keeps.{kept-within}
 use Rattle.choosing.specs.Buffers.{headerIn, headerOf}
 use Rattle.choosing.specs.Choosing.{formSent}
 use Rattle.reporting.specs.Reporting.{eventKeeper, eventKept, eventDue}
-use Rattle.reporting.specs.Needs.{SlotIn, EventFits, CanTellOf, CanTellAs}
+use Rattle.reporting.specs.Needs.{CanTell, EventFits}
 
 -- ---- its slot
 
@@ -47,35 +47,28 @@ module _ (mem : List ℕ) (a : Area) (slot : Slot) (marker : ℕ) (f : Frame) (t
       ∙ ap (λ (k : ℕ). splice mem k (eventElement marker f time)) e
       ∙ sym (ap (slotMemory mem a (eventElement marker f time)) y)
 
-pub slot-within : (a : Area) (words : ℕ) (slot : Slot) (f : Frame) (place : ℕ) → EventFits a words slot f → slot ≡ At place
-    → place < a .count
-slot-within a words slot f place h y = subst (λ (x : Slot). SlotIn x (a .count)) y (h .slotted)
-
--- a slot whose place, if it has one, is below a number
-slot-in : (slot : Slot) (n : ℕ) → ((p : ℕ) → slot ≡ At p → p < n) → SlotIn slot n
-slot-in (At p) n f = f p refl
-slot-in Lost n f = tt
+pub slot-within : (a : Area) (words : ℕ) (slot : Slot) (f : Frame) (place : ℕ) → EventFits a words slot f
+    → slot ≡ At place → place < a .count
+slot-within a words slot f place h y = h .within place y
 
 -- ---- it is kept
 
 module _ (s : State) (k : Keeper) (e : k ≡ eventKeeper (s .regs)) where
-  pub can-keep : (words : ℕ) (f : Frame) → CanTellAs s words f → CanKeep k (s .events)
-  can-keep words f h = rw e (record { ring = h .tell .events; flags = omega arith })
+  pub can-keep : (words : ℕ) → CanTell s words → CanKeep k (s .events)
+  can-keep words h = rw e (record { ring = h .events; flags = omega arith })
 
   module _ (r : Record) (t : Kept) (q : t ≡ keepRule k (s .events) r) where
     kept-is : t ≡ keepRule (eventKeeper (s .regs)) (s .events) r
     kept-is = q ∙ ap (λ (x : Keeper). keepRule x (s .events) r) e
 
-    pub event-fits : (words : ℕ) (f : Frame) (a : Area) → CanTellAs s words f → a ≡ eventArea (s .regs)
+    pub event-fits : (words : ℕ) (f : Frame) (a : Area) → CanTell s words → InFields f → a ≡ eventArea (s .regs)
         → EventFits a words (t .slot) f
-    event-fits words f a h u =
-        let can : CanKeep (eventKeeper (s .regs)) (s .events) = record { ring = h .tell .events; flags = omega arith } in
-        let within = kept-within (eventKeeper (s .regs)) (s .events) r can in
-        subst (λ (x : Area). EventFits x words (t .slot) f) (sym u)
+    event-fits words f a h i u =
+        rw (u, kept-is)
         (record {
-          room = event-roomy (s .regs) words (h .tell .legal);
-          slotted = slot-in (t .slot) (eventSize (s .regs)) (λ p y. within p (ap (λ (x : Kept). x .slot) (sym kept-is) ∙ y));
-          frame = h .frame;
+          room = event-roomy (s .regs) words (h .legal);
+          within = kept-within (eventKeeper (s .regs)) (s .events) r (record { ring = h .events; flags = omega arith });
+          frame = i;
         })
 
     pub event-kept : (mem last : List ℕ) (marker : ℕ) (f : Frame) (time : ℕ) (a : Area) (n : State)
@@ -89,16 +82,14 @@ module _ (s : State) (k : Keeper) (e : k ≡ eventKeeper (s .regs)) where
 
 -- ---- it is due
 
-module _ (s : State) (words buffer : ℕ) (c : CanTellOf s words buffer) where
-  pub told-place : (a : Area) → a ≡ txArea (s .regs) → HasPlace a buffer words
-  told-place a e = rw e (record { room = tx-roomy (s .regs) words (c .tell .legal); within = c .within })
+module _ (s : State) where
+  pub told-place : (words buffer : ℕ) (a : Area) → CanTell s words → buffer < txCount (s .regs) → a ≡ txArea (s .regs)
+      → HasPlace a buffer words
+  told-place words buffer a c l e = rw e (record { room = tx-roomy (s .regs) words (c .legal); within = l })
 
-  pub told-as : (h : TxHeader) (f : Frame) (passive : Bool) → InFields (h .frame) → f ≡ formSent (s .regs) (h .frame) passive
-      → CanTellAs s words f
-  told-as h f passive i e = record {
-    tell = c .tell;
-    frame = sent-fits (h .frame) f (s .regs .fdon) (s .regs .rateon) passive e i;
-  }
+  pub told-fits : (h : TxHeader) (f : Frame) (passive : Bool) → InFields (h .frame)
+      → f ≡ formSent (s .regs) (h .frame) passive → InFields f
+  told-fits h f passive i e = sent-fits (h .frame) f (s .regs .fdon) (s .regs .rateon) passive e i
 
 module _ (s : State) (r : Record) (mem : List ℕ) (buffer : ℕ) (passive : Bool) (time : ℕ) (a : Area) (h : TxHeader)
     (e : a ≡ txArea (s .regs)) (q : h ≡ headerIn mem a buffer) where

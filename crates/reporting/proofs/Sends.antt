@@ -11,13 +11,13 @@ use Rattle.ring.specs.Rings.{Fit, held, releasedThrough, released}
 use Rattle.ring.specs.declared.Ring.{Ring}
 use Rattle.ring.proofs.Circle.{released-oldest}
 use Rattle.ring.proofs.Holding.{oldest-held}
-use Rattle.registers.specs.Fields.{dedicated, shared, isQueue}
+use Rattle.registers.specs.Fields.{dedicated, shared, txCount, isQueue}
 use Rattle.engine.specs.Buffers.{inSharedFifo}
 use Rattle.engine.specs.declared.state.State.{State}
 use Rattle.engine.proofs.Cases.{fifo-ring}
 use Rattle.choosing.specs.Choosing.{isCandidate}
-use Rattle.reporting.specs.Reporting.{sharedSent, sentState}
-use Rattle.reporting.specs.Needs.{Reportable, sentWith, CanTellOf}
+use Rattle.reporting.specs.Reporting.{sharedSent, sentWith, sentState}
+use Rattle.reporting.specs.Needs.{Reportable, CanTell}
 
 module _ (s : State) (words buffer : ℕ) (h : Reportable s words buffer) where
   pub report-small : buffer < 32
@@ -58,10 +58,14 @@ module _ (s : State) (words buffer : ℕ) (h : Reportable s words buffer) where
     pub sent-beside : b ≡ false → s .shared ≡ sharedSent s buffer
     sent-beside z = sym (pick-second (released (s .shared) (shared (s .regs)) 1) (s .shared) (sym e ∙ z))
 
-module _ (s : State) (buffer : ℕ) (next : Ring) (n : State) (e : next ≡ sharedSent s buffer) (q : n ≡ sentWith s next buffer) where
+module _ (s : State) (buffer : ℕ) (next : Ring) (n : State) (e : next ≡ sharedSent s buffer)
+    (q : n ≡ sentWith s next buffer) where
   pub sent-is : n ≡ sentState s buffer
   sent-is = q ∙ ap (λ (x : Ring). sentWith s x buffer) e
 
-  pub sent-can-tell : (words : ℕ) → Reportable s words buffer → CanTellOf n words buffer
-  sent-can-tell words h =
-      rw sent-is (record { tell = record { legal = h .sound .legal; events = h .sound .events }; within = h .within })
+  module _ (words : ℕ) (h : Reportable s words buffer) where
+    pub sent-can-tell : CanTell n words
+    sent-can-tell = rw sent-is (record { legal = h .sound .legal; events = h .sound .events })
+
+    pub sent-within : buffer < txCount (n .regs)
+    sent-within = rw sent-is (h .within)

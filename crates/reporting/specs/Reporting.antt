@@ -46,10 +46,12 @@ reportRefusals w buffer =
 abbrev pub sharedSent : State → ℕ → Ring
 sharedSent s buffer = pick (inSharedFifo s buffer) (released (s .shared) (shared (s .regs)) 1) (s .shared)
 
--- the buffer is sent, and no longer pending
+-- the buffer is sent, and no longer pending: with any ring of the shared FIFO, and with that one
+abbrev pub sentWith : State → Ring → ℕ → State
+sentWith s next buffer = withTx s next (withoutBit 32 (s .pending) buffer) (withBit (s .sent) buffer) (s .cancelled)
+
 abbrev pub sentState : State → ℕ → State
-sentState s buffer =
-    withTx s (sharedSent s buffer) (withoutBit 32 (s .pending) buffer) (withBit (s .sent) buffer) (s .cancelled)
+sentState s buffer = sentWith s (sharedSent s buffer) buffer
 
 -- sent 9; 11 where this send emptied the shared FIFO
 abbrev pub sentRecord : State → Record → ℕ → Record

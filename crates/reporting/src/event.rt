@@ -15,12 +15,15 @@ use places::Slot;
 use places::place_in;
 use registers::Registers;
 ghost use mathlib.Core.Path.{_≡_};
+ghost use Prim.Native.Nat.{_<_};
 ghost use lib.ListN.{length};
+ghost use Rattle.registers.specs.Fields.{txCount};
 ghost use Rattle.element.specs.Elements.{eventElement};
+ghost use Rattle.element.specs.Fitting.{InFields};
 ghost use Rattle.places.specs.Slots.{slotMemory};
 ghost use Rattle.engine.specs.Calls.{world};
 ghost use Rattle.reporting.specs.Reporting.{eventKeeper, eventKept, eventDue};
-ghost use Rattle.reporting.specs.Needs.{EventFits, CanTellOf, CanTellAs};
+ghost use Rattle.reporting.specs.Needs.{CanTell, EventFits};
 
 pub struct AfterEvent {
     pub state: State,
@@ -60,7 +63,7 @@ fn keep_event(
     f: Frame,
     time: u16,
 ) -> AfterEvent
-    requires { ⌜ CanTellAs s (length (now mem)) f ⌝ }
+    requires { ⌜ CanTell s (length (now mem)) × InFields f ⌝ }
     ensures { λ r. ⌜ world (r .state) (r .recorded) (now (mem .exit))
         ≡ eventKept (world s recorded (now (mem .entry))) marker f time ⌝ }
 {
@@ -83,7 +86,7 @@ pub fn tell_event(
     passive: bool,
     time: u16,
 ) -> AfterEvent
-    requires { ⌜ CanTellOf s (length (now mem)) buffer ⌝ }
+    requires { ⌜ CanTell s (length (now mem)) × (buffer < txCount (s .regs)) ⌝ }
     ensures { λ r. ⌜ world (r .state) (r .recorded) (now (mem .exit))
         ≡ eventDue (world s recorded (now (mem .entry))) buffer passive time ⌝ }
 {

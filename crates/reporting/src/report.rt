@@ -20,8 +20,8 @@ ghost use Rattle.shape.specs.Calls.{settles};
 ghost use Rattle.engine.specs.Answers.{replied};
 ghost use Rattle.engine.specs.Calls.{world};
 ghost use Rattle.engine.specs.Flags.{raised, raisedIf};
-ghost use Rattle.reporting.specs.Reporting.{sharedSent, reports, reportSent};
-ghost use Rattle.reporting.specs.Needs.{Reportable, sentWith};
+ghost use Rattle.reporting.specs.Reporting.{sharedSent, sentWith, reports, reportSent};
+ghost use Rattle.reporting.specs.Needs.{Reportable};
 
 pub struct AfterReport {
     pub reply: Reply,

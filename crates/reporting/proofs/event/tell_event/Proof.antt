@@ -1,5 +1,5 @@
 -- The header is that of the sent element, which wants an event or none.
-use Rattle.reporting.proofs.Events.{told-place, told-as, one-event, no-event}
+use Rattle.reporting.proofs.Events.{told-place, told-fits, one-event, no-event}
 use borrow.Author.Needs.{needs}
 use Rattle.reporting.proofs.event.tell_event.Statement.{statement}
 use Rattle.reporting.proofs.event.tell_event.Tie as tie
@@ -11,7 +11,7 @@ tell-event-spec =
     (λ c κs. search needs)
     (λ c κs. search (told-place, needs))
     (λ c κs. search needs)
-    (λ c κs. search (told-as, needs))
+    (λ c κs. search (told-fits, needs))
     (λ c. search needs)
     (λ c. search (one-event, needs))
     (λ c. search needs)
