@@ -5,6 +5,7 @@ pub mod Parts
 pub mod Calls
 pub mod Memories
 pub mod Holdings
+pub mod Buffers
 pub mod Alike
 pub mod Replies
 pub mod Keeps

@@ -1,26 +1,36 @@
 // The event of a sent frame, where its element wants one.
-use crate::report::AfterReport;
-use choosing::asking::header_at;
+use areas::event_area;
+use areas::tx_area;
+use choosing::buffers::form_sent;
+use choosing::buffers::header_at;
 use element::memory::store_event;
-use engine::areas::Area;
-use engine::areas::event_area;
-use engine::areas::place_in;
-use engine::areas::tx_area;
+use engine::flags::EVENT_FLAGS;
 use engine::keeping::Keeper;
-use engine::keeping::Slot;
 use engine::keeping::keep;
-use engine::refusals::Reply;
 use engine::state::Record;
 use engine::state::State;
 use frame::Frame;
-use frame::as_sent;
+use places::Area;
+use places::Slot;
+use places::place_in;
 use registers::Registers;
 ghost use mathlib.Core.Path.{_≡_};
+ghost use Prim.Native.Nat.{_<_};
 ghost use lib.ListN.{length};
+ghost use Rattle.registers.specs.Fields.{txCount};
 ghost use Rattle.element.specs.Elements.{eventElement};
-ghost use Rattle.engine.specs.Keeping.{slotMemory};
-ghost use Rattle.reporting.specs.Reporting.{reportOutcome, eventKeeper, eventKept, eventDue, EventFits, CanTellOf, CanTellAs};
+ghost use Rattle.element.specs.Fitting.{InFields};
+ghost use Rattle.places.specs.Slots.{slotMemory};
+ghost use Rattle.engine.specs.Calls.{world};
+ghost use Rattle.reporting.specs.Reporting.{eventKeeper, eventKept, eventDue};
+ghost use Rattle.reporting.specs.Needs.{CanTell, EventFits};
 
+pub struct AfterEvent {
+    pub state: State,
+    pub recorded: Record,
+}
+
+// A full list blocks.
 fn event_keeper(r: Registers) -> Keeper
     ensures { λ k. ⌜ k ≡ eventKeeper r ⌝ }
 {
@@ -28,7 +38,7 @@ fn event_keeper(r: Registers) -> Keeper
         size: r.txefc.count(),
         mark: r.txefc.watermark(),
         overwrites: false,
-        first: 12,
+        first: EVENT_FLAGS,
     }
 }
 
@@ -47,46 +57,43 @@ fn write_event(mem: &mut [u32], a: Area, slot: Slot, marker: u8, f: Frame, time:
 // A full list loses the event, with a flag.
 fn keep_event(
     s: State,
-    status: Record,
+    recorded: Record,
     mem: &mut [u32],
     marker: u8,
     f: Frame,
     time: u16,
-) -> AfterReport
-    requires { ⌜ CanTellAs s (length (now mem)) f ⌝ }
-    ensures { λ r. ⌜ reportOutcome r (now (mem .exit)) ≡ eventKept s status (now (mem .entry)) marker f time ⌝ }
+) -> AfterEvent
+    requires { ⌜ CanTell s (length (now mem)) × InFields f ⌝ }
+    ensures { λ r. ⌜ world (r .state) (r .recorded) (now (mem .exit))
+        ≡ eventKept (world s recorded (now (mem .entry))) marker f time ⌝ }
 {
-    let kept = keep(event_keeper(s.regs), s.events, status);
+    let kept = keep(event_keeper(s.regs), s.events, recorded);
     let slot = kept.slot;
-    let after = kept.status;
+    let after = kept.recorded;
     write_event(mem, event_area(s.regs), slot, marker, f, time);
-    AfterReport {
-        reply: Reply::Done,
+    AfterEvent {
         state: s.with_events(kept.ring),
-        status: after,
+        recorded: after,
     }
 }
 
 // After the send: an event, where the sent element wants one, with the frame as sent.
 pub fn tell_event(
     s: State,
-    status: Record,
+    recorded: Record,
     mem: &mut [u32],
     buffer: u32,
     passive: bool,
     time: u16,
-) -> AfterReport
-    requires { ⌜ CanTellOf s (length (now mem)) buffer ⌝ }
-    ensures { λ r. ⌜ reportOutcome r (now (mem .exit)) ≡ eventDue s status (now (mem .entry)) buffer passive time ⌝ }
+) -> AfterEvent
+    requires { ⌜ CanTell s (length (now mem)) × (buffer < txCount (s .regs)) ⌝ }
+    ensures { λ r. ⌜ world (r .state) (r .recorded) (now (mem .exit))
+        ≡ eventDue (world s recorded (now (mem .entry))) buffer passive time ⌝ }
 {
     let h = header_at(mem, tx_area(s.regs), buffer);
     if h.wish {
-        let f = as_sent(h.frame, s.regs.fdon, s.regs.rateon, passive);
-        return keep_event(s, status, mem, h.marker as u8, f, time);
+        let f = form_sent(s.regs, h.frame, passive);
+        return keep_event(s, recorded, mem, h.marker, f, time);
     }
-    AfterReport {
-        reply: Reply::Done,
-        state: s,
-        status,
-    }
+    AfterEvent { state: s, recorded }
 }
