@@ -1,6 +1,8 @@
 pub mod Cases
 pub mod Unfitness
 pub mod Sounds
+pub mod Buffers
+pub mod Raised
 pub mod Calls
 pub mod Replies
 pub mod Keeps

@@ -1,6 +1,7 @@
 pub mod Answers
 pub mod States
 pub mod Fitness
+pub mod Buffers
 pub mod Flags
 pub mod Keeping
 pub mod Calls
