@@ -1,121 +1,145 @@
--- The cases of what is found against calls 7, 8, 9, 12 and 13, one law each.
+-- The cases of what is found against calls 7, 8 and 9, one law each.
 -- Assumes nothing.
 use Prim.Native.Nat.{ℕ, _≤_, _<_}
-use mathlib.Core.Path.{_≡_, sym, _∙_}
+use mathlib.Core.Path.{_≡_, sym, ap, ap₂, _∙_}
 use mathlib.Core.Bool.{Bool, true, false, not, _&&_}
+use mathlib.Core.List.{List}
 use borrow.Author.Tests.{le-leb, lt-leb}
 use native.Mathlib.Omega.{arith}
 use lib.Dec.{leb}
+use lib.ListN.{length}
 use Rattle.words.specs.Bits.{isSet}
-use Rattle.ring.specs.Rings.{Fit, held}
-use Rattle.ring.specs.declared.Ring.{Ring}
+use Rattle.words.specs.Rules.{first}
 use Rattle.frame.specs.Malformed.{malformed}
-use Rattle.frame.specs.declared.Frame.{Frame}
+use Rattle.element.specs.declared.TxHeader.{TxHeader}
+use Rattle.registers.specs.Fields.{dedicated, shared, txCount, isQueue}
 use Rattle.engine.specs.Answers.{ruled}
-use Rattle.engine.specs.Areas.{eventSize, dedicated, txCount, isQueue}
-use Rattle.engine.specs.Fitness.{unfit, fitThen}
+use Rattle.engine.specs.Buffers.{noTxBuffer, inSharedFifo}
+use Rattle.engine.specs.Calls.{world}
+use Rattle.engine.specs.Fitness.{unfit, Sound}
 use Rattle.engine.specs.declared.refusals.Judged.{Judged}
 use Rattle.engine.specs.declared.refusals.Judged.the-variants.{Allowed, Refused}
-use Rattle.engine.specs.declared.refusals.Refusal.the-variants.{Malformed, NoSuch, AlreadyPending, InSharedFifo, NotPending, NotHeld}
+use Rattle.engine.specs.declared.refusals.Refusal.the-variants.{Unfit, Malformed, NoSuch, AlreadyPending, NoneFree, InSharedFifo, NotPending}
 use Rattle.engine.specs.declared.state.State.{State}
 use Rattle.engine.specs.declared.state.Record.{Record}
 use Rattle.engine.proofs.Sounds.{sound-of}
-use Rattle.engine.proofs.Judgements.{fit-rest}
-use Rattle.sending.specs.Judging.{freeRuling, formRuling, pendingRuling, heldRuling}
+use Rattle.requesting.specs.Cancelling.{cancelRefusals}
+use Rattle.requesting.specs.Needs.{SharedCanLook}
+use Rattle.requesting.specs.Places.{freePlace, noneFree}
+use Rattle.requesting.specs.Requesting.{notDedicated, dedicatedRefusals, sharedRefusals}
 
--- ---- after 20
+module _ (s : State) (r : Record) (mem : List ℕ) (b : Bool) (e : b ≡ unfit s r (length mem)) where
+  sound : b ≡ false → Sound s (length mem)
+  sound z = sound-of s r (length mem) (sym e ∙ z)
 
-module _ (s : State) (r : Record) (words : ℕ) (b : Bool) (e : b ≡ unfit s r words) where
-  module _ (j : Judged) (z : b ≡ false) (buffer n : ℕ) where
-    pub dedicated-rest : (f : Frame) (len : ℕ) → n ≡ dedicated (s .regs) → ruled j ≡ freeRuling f len n (s .pending) buffer → ruled j ≡ fitThen s r words (freeRuling f len (dedicated (s .regs)) (s .pending) buffer)
-    dedicated-rest f len q t = fit-rest s r words b e (freeRuling f len (dedicated (s .regs)) (s .pending) buffer) j z (t ∙ rw q)
+  -- ---- call 7
 
-    pub cancel-rest : (m : ℕ) (c : Bool) → n ≡ dedicated (s .regs) → m ≡ txCount (s .regs) → c ≡ isQueue (s .regs) → ruled j ≡ pendingRuling m n c (s .pending) buffer
-        → ruled j ≡ fitThen s r words (pendingRuling (txCount (s .regs)) (dedicated (s .regs)) (isQueue (s .regs)) (s .pending) buffer)
-    cancel-rest m c q u w t = fit-rest s r words b e (pendingRuling (txCount (s .regs)) (dedicated (s .regs)) (isQueue (s .regs)) (s .pending) buffer) j z (t ∙ rw (q, u, w))
+  module _ (buffer : ℕ) (h : TxHeader) (len : ℕ) where
+    abbrev FindsDedicated : Judged → Type 0
+    FindsDedicated j = ruled j ≡ first (dedicatedRefusals (world s r mem) buffer h len)
 
-    pub event-rest : n ≡ eventSize (s .regs) → ruled j ≡ heldRuling (s .events) n buffer → ruled j ≡ fitThen s r words (heldRuling (s .events) (eventSize (s .regs)) buffer)
-    event-rest q t = fit-rest s r words b e (heldRuling (s .events) (eventSize (s .regs)) buffer) j z (t ∙ rw q)
+    pub dedicated-unfit : b ≡ true → FindsDedicated (Refused Unfit)
+    unfolding dedicatedRefusals
+    dedicated-unfit y = simp (← e, y)
 
-  -- what the calls look at is within its bounds
-  pub few-dedicated : b ≡ false → (n : ℕ) → n ≡ dedicated (s .regs) → n ≤ 32
-  few-dedicated z n q = omega (arith, sound-of s r words (sym e ∙ z) .legal .counted .together)
+    module _ (z : b ≡ false) (c : Bool) (q : c ≡ malformed (h .frame) len) where
+      pub dedicated-malformed : c ≡ true → FindsDedicated (Refused Malformed)
+      unfolding dedicatedRefusals
+      dedicated-malformed y = simp (← e, z, ← q, y)
 
-  pub few-buffers : b ≡ false → (n : ℕ) → n ≡ txCount (s .regs) → n ≤ 32
-  few-buffers z n q = omega (arith, sound-of s r words (sym e ∙ z) .legal .counted .together)
+      module _ (y : c ≡ false) (n : ℕ) (t : n ≡ dedicated (s .regs)) where
+        carried : {x : Bool} → leb n buffer ≡ x → notDedicated s buffer ≡ x
+        carried p = ap (λ (k : ℕ). leb k buffer) (sym t) ∙ p
 
-  pub events-fit : b ≡ false → (n : ℕ) → n ≡ eventSize (s .regs) → Fit (s .events) n
-  events-fit z n q = rw q (sound-of s r words (sym e ∙ z) .events)
+        pub dedicated-none : n ≤ buffer → FindsDedicated (Refused NoSuch)
+        unfolding dedicatedRefusals
+        dedicated-none l = simp (← e, z, ← q, y, carried (le-leb _ _ l))
 
--- ---- call 7
+        module _ (l : buffer < n) (d : Bool) (u : d ≡ isSet (s .pending) buffer) where
+          pub dedicated-taken : d ≡ true → FindsDedicated (Refused AlreadyPending)
+          unfolding dedicatedRefusals
+          dedicated-taken x = simp (← e, z, ← q, y, carried (lt-leb _ _ l), ← u, x)
 
-module _ (f : Frame) (len dedicated pending buffer : ℕ) (b : Bool) (e : b ≡ malformed f len) where
-  pub free-malformed : b ≡ true → ruled (Refused Malformed) ≡ freeRuling f len dedicated pending buffer
-  unfolding freeRuling
-  free-malformed y = simp (← e, y)
+          pub dedicated-free : d ≡ false → FindsDedicated Allowed
+          unfolding dedicatedRefusals
+          dedicated-free x = simp (← e, z, ← q, y, carried (lt-leb _ _ l), ← u, x)
 
-  module _ (n : b ≡ false) where
-    pub free-none : dedicated ≤ buffer → ruled (Refused NoSuch) ≡ freeRuling f len dedicated pending buffer
-    unfolding freeRuling
-    free-none h = simp (← e, n, le-leb _ _ h)
+  -- ---- call 8
 
-    module _ (h : buffer < dedicated) (c : Bool) (q : c ≡ isSet pending buffer) where
-      pub free-taken : c ≡ true → ruled (Refused AlreadyPending) ≡ freeRuling f len dedicated pending buffer
-      unfolding freeRuling
-      free-taken y = simp (← e, n, lt-leb _ _ h, ← q, y)
+  module _ (h : TxHeader) (len : ℕ) where
+    abbrev FindsShared : Judged → Type 0
+    FindsShared j = ruled j ≡ first (sharedRefusals (world s r mem) h len)
 
-      pub free-found : c ≡ false → ruled Allowed ≡ freeRuling f len dedicated pending buffer
-      unfolding freeRuling
-      free-found y = simp (← e, n, lt-leb _ _ h, ← q, y)
+    pub shared-unfit : b ≡ true → FindsShared (Refused Unfit)
+    unfolding sharedRefusals
+    shared-unfit y = simp (← e, y)
 
-pub ruleset frees = (free-malformed, free-none, free-taken, free-found)
+    module _ (z : b ≡ false) (c : Bool) (q : c ≡ malformed (h .frame) len) where
+      pub shared-malformed : c ≡ true → FindsShared (Refused Malformed)
+      unfolding sharedRefusals
+      shared-malformed y = simp (← e, z, ← q, y)
 
--- ---- call 8
+      module _ (y : c ≡ false) (n p : ℕ) (t : n ≡ shared (s .regs)) (u : p ≡ freePlace s) where
+        found : {x : Bool} → leb n p ≡ x → noneFree s ≡ x
+        found v = ap₂ leb (sym t) (sym u) ∙ v
 
-module _ (s : State) (r : Record) (words : ℕ) (b : Bool) (e : b ≡ unfit s r words) (z : b ≡ false) (f : Frame) (len : ℕ) (c : Bool) (q : c ≡ malformed f len) where
-  pub form-malformed : c ≡ true → ruled (Refused Malformed) ≡ fitThen s r words (formRuling f len)
-  form-malformed y = simp (← e, z, ← q, y)
+        pub shared-none : n ≤ p → FindsShared (Refused NoneFree)
+        unfolding sharedRefusals
+        shared-none l = simp (← e, z, ← q, y, found (le-leb _ _ l))
 
-  pub form-right : c ≡ false → ruled Allowed ≡ fitThen s r words (formRuling f len)
-  form-right y = simp (← e, z, ← q, y)
+        pub shared-free : p < n → FindsShared Allowed
+        unfolding sharedRefusals
+        shared-free l = simp (← e, z, ← q, y, found (lt-leb _ _ l))
 
--- ---- call 9
+  -- ---- call 9
 
-module _ (count dedicated : ℕ) (queue : Bool) (pending buffer : ℕ) where
-  pub pending-none : count ≤ buffer → ruled (Refused NoSuch) ≡ pendingRuling count dedicated queue pending buffer
-  unfolding pendingRuling
-  pending-none h = simp (le-leb _ _ h)
+  module _ (buffer : ℕ) where
+    abbrev FindsCancel : Judged → Type 0
+    FindsCancel j = ruled j ≡ first (cancelRefusals (world s r mem) buffer)
 
-  module _ (h : buffer < count) where
-    pub pending-fifo : (leb dedicated buffer && not queue) ≡ true → ruled (Refused InSharedFifo) ≡ pendingRuling count dedicated queue pending buffer
-    unfolding pendingRuling
-    pending-fifo y = simp (lt-leb _ _ h, y)
+    pub cancel-unfit : b ≡ true → FindsCancel (Refused Unfit)
+    unfolding cancelRefusals
+    cancel-unfit y = simp (← e, y)
 
-    module _ (n : (leb dedicated buffer && not queue) ≡ false) (c : Bool) (q : c ≡ isSet pending buffer) where
-      pub pending-set : c ≡ true → ruled Allowed ≡ pendingRuling count dedicated queue pending buffer
-      unfolding pendingRuling
-      pending-set y = simp (lt-leb _ _ h, n, ← q, y)
+    module _ (z : b ≡ false) (n : ℕ) (t : n ≡ txCount (s .regs)) where
+      exists : {x : Bool} → leb n buffer ≡ x → noTxBuffer s buffer ≡ x
+      exists p = ap (λ (k : ℕ). leb k buffer) (sym t) ∙ p
 
-      pub pending-clear : c ≡ false → ruled (Refused NotPending) ≡ pendingRuling count dedicated queue pending buffer
-      unfolding pendingRuling
-      pending-clear y = simp (lt-leb _ _ h, n, ← q, y)
+      pub cancel-none : n ≤ buffer → FindsCancel (Refused NoSuch)
+      unfolding cancelRefusals
+      cancel-none l = simp (← e, z, exists (le-leb _ _ l))
 
-pub ruleset pendings = (pending-none, pending-fifo, pending-set, pending-clear)
+      module _ (l : buffer < n) (m : ℕ) (k : Bool) (u : m ≡ dedicated (s .regs)) (q : k ≡ isQueue (s .regs)) where
+        within : {x : Bool} → (leb m buffer && not k) ≡ x → inSharedFifo s buffer ≡ x
+        within p = ap₂ (λ (i : ℕ) (c : Bool). leb i buffer && not c) (sym u) (sym q) ∙ p
 
--- ---- calls 12 and 13
+        pub cancel-fifo : (leb m buffer && not k) ≡ true → FindsCancel (Refused InSharedFifo)
+        unfolding cancelRefusals
+        cancel-fifo y = simp (← e, z, exists (lt-leb _ _ l), within y)
 
-module _ (q : Ring) (size place : ℕ) where
-  pub held-none : size ≤ place → ruled (Refused NoSuch) ≡ heldRuling q size place
-  unfolding heldRuling
-  held-none h = simp (le-leb _ _ h)
+        module _ (y : (leb m buffer && not k) ≡ false) (d : Bool) (v : d ≡ isSet (s .pending) buffer) where
+          pub cancel-pending : d ≡ true → FindsCancel Allowed
+          unfolding cancelRefusals
+          cancel-pending x = simp (← e, z, exists (lt-leb _ _ l), within y, ← v, x)
 
-  module _ (h : place < size) (b : Bool) (e : b ≡ held q size place) where
-    pub held-yes : b ≡ true → ruled Allowed ≡ heldRuling q size place
-    unfolding heldRuling
-    held-yes y = simp (lt-leb _ _ h, ← e, y)
+          pub cancel-free : d ≡ false → FindsCancel (Refused NotPending)
+          unfolding cancelRefusals
+          cancel-free x = simp (← e, z, exists (lt-leb _ _ l), within y, ← v, x)
 
-    pub held-no : b ≡ false → ruled (Refused NotHeld) ≡ heldRuling q size place
-    unfolding heldRuling
-    held-no y = simp (lt-leb _ _ h, ← e, y)
+  -- ---- what they look at is within its bounds
 
-pub ruleset helds = (held-none, held-yes, held-no)
+  module _ (z : b ≡ false) where
+    pub dedicated-small : (n buffer : ℕ) → n ≡ dedicated (s .regs) → buffer < n → buffer < 32
+    dedicated-small n buffer t l = omega (arith, sound z .legal .counted .together)
+
+    pub existing-small : (n buffer : ℕ) → n ≡ txCount (s .regs) → buffer < n → buffer < 32
+    existing-small n buffer t l = omega (arith, sound z .legal .counted .together)
+
+    pub can-look : SharedCanLook s
+    can-look = let h = sound z in record { few = h .legal .counted .together; bits = h .pending; ring = h .shared }
+
+pub ruleset dedicateds = (dedicated-unfit, dedicated-malformed, dedicated-none, dedicated-taken, dedicated-free)
+
+pub ruleset shareds = (shared-unfit, shared-malformed, shared-none, shared-free)
+
+pub ruleset cancels = (cancel-unfit, cancel-none, cancel-fifo, cancel-pending, cancel-free)

@@ -1,10 +1,4 @@
-pub mod Judgements
 pub mod Places
-pub mod Requests
-pub mod Lists
-pub mod Ways
-pub mod Soundness
-pub mod Changes
-pub mod Staying
-pub mod Outcomes
-pub mod OwnSections
+pub mod Judgements
+pub mod Opens
+pub mod Calls

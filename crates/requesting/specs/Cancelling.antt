@@ -1,38 +1,32 @@
--- Call 9, cancel: the whole outcome.
+-- Call 9, cancel.
 use Prim.Native.Nat.{ℕ}
 use mathlib.Core.Bool.{not}
 use mathlib.Core.List.{[], _∷_}
 use Rattle.words.specs.Bits.{withBit, withoutBit}
-use Rattle.words.specs.Rules.{refuseIf, first, settle}
-use Rattle.engine.specs.Answers.{Says, refuses, done, replied}
-use Rattle.engine.specs.Fitness.{unfit}
+use Rattle.shape.specs.Calls.{leaves, call}
+use Rattle.shape.specs.Refusals.{Refusals}
+use Rattle.engine.specs.Buffers.{noTxBuffer, isPending, inSharedFifo}
+use Rattle.engine.specs.Calls.{World, world, Outcome, _when_, isUnfit}
 use Rattle.engine.specs.Flags.{raised}
 use Rattle.engine.specs.States.{withTx}
 use Rattle.engine.specs.declared.state.State.{State}
-use Rattle.engine.specs.declared.state.Record.{Record}
-use Rattle.choosing.specs.Buffers.{noBuffer, isPending, inSharedFifo}
-use Rattle.sending.specs.declared.cancelling.AfterCancel.{AfterCancel}
 
-pub record CancelOutcome : Type 0 where
-  pub says : Says (Unit {0})
-  pub state : State
-  pub status : Record
-
-abbrev pub cancelOutcome : AfterCancel → CancelOutcome
-cancelOutcome r = record { says = replied (r .reply); state = r .state; status = r .status }
+-- what is against it. A request in the shared FIFO is sent in its turn
+unfoldable pub cancelRefusals : World → ℕ → Refusals
+cancelRefusals w buffer =
+    20 when isUnfit w
+    ∷ 23 when noTxBuffer (w .state) buffer
+    ∷ 26 when inSharedFifo (w .state) buffer
+    ∷ 27 when not (isPending (w .state) buffer)
+    ∷ []
 
 -- the buffer is no longer pending, but cancelled
 abbrev pub cancelledState : State → ℕ → State
-cancelledState s buffer = withTx s (s .shared) (withoutBit 32 (s .pending) buffer) (s .sent) (withBit (s .cancelled) buffer)
+cancelledState s buffer =
+    withTx s (s .shared) (withoutBit 32 (s .pending) buffer) (s .sent) (withBit (s .cancelled) buffer)
 
--- call 9
-unfoldable pub cancelRule : State → Record → ℕ → ℕ → CancelOutcome
-cancelRule s r words buffer =
-    settle (first (
-    refuseIf (unfit s r words) 20
-    ∷ refuseIf (noBuffer s buffer) 23
-    ∷ refuseIf (inSharedFifo s buffer) 26
-    ∷ refuseIf (not (isPending s buffer)) 27
-    ∷ []))
-    (record { says = done; state = cancelledState s buffer; status = raised r 10 })
-    (λ n. record { says = refuses n; state = s; status = r })
+-- call 9: flag 10 is set
+abbrev pub cancel : World → ℕ → Outcome (Unit {0})
+cancel w buffer =
+    call w [] (cancelRefusals w buffer)
+    (leaves (world (cancelledState (w .state) buffer) (raised (w .recorded) 10) (w .memory)))

@@ -1,5 +1,6 @@
 // Call 9, cancel.
 use crate::judging::judge_cancel;
+use engine::flags::CANCELLED;
 use engine::flags::raise;
 use engine::refusals::Judged;
 use engine::refusals::Reply;
@@ -8,13 +9,15 @@ use engine::state::State;
 use words::bits32;
 ghost use mathlib.Core.Path.{_≡_};
 ghost use Prim.Native.Nat.{_<_};
-ghost use lib.ListN.{length};
-ghost use Rattle.sending.specs.Cancelling.{cancelOutcome, cancelRule, cancelledState};
+ghost use Rattle.shape.specs.Calls.{settles};
+ghost use Rattle.engine.specs.Answers.{replied};
+ghost use Rattle.engine.specs.Calls.{world};
+ghost use Rattle.requesting.specs.Cancelling.{cancel as cancelCall, cancelledState};
 
 pub struct AfterCancel {
     pub reply: Reply,
     pub state: State,
-    pub status: Record,
+    pub recorded: Record,
 }
 
 // The buffer is no longer pending, but cancelled.
@@ -29,19 +32,20 @@ fn with_cancel(s: State, buffer: u32) -> State
 }
 
 // A request in the shared FIFO cannot be cancelled: it is sent in its turn.
-pub fn cancel(s: State, status: Record, mem: &[u32], buffer: u32) -> AfterCancel
-    ensures { λ r. ⌜ cancelOutcome r ≡ cancelRule s status (length (now (mem .entry))) buffer ⌝ }
+pub fn cancel(s: State, recorded: Record, mem: &[u32], buffer: u32) -> AfterCancel
+    ensures { λ r. ⌜ settles (replied (r .reply)) (world (r .state) (r .recorded) (now (mem .entry)))
+        ≡ cancelCall (world s recorded (now (mem .entry))) buffer ⌝ }
 {
-    match judge_cancel(s, status, mem.len(), buffer) {
+    match judge_cancel(s, recorded, mem, buffer) {
         Judged::Refused(n) => AfterCancel {
             reply: Reply::Refused(n),
             state: s,
-            status,
+            recorded,
         },
         Judged::Allowed => AfterCancel {
             reply: Reply::Done,
             state: with_cancel(s, buffer),
-            status: raise(status, 10),
+            recorded: raise(recorded, CANCELLED),
         },
     }
 }

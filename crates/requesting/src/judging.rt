@@ -1,123 +1,77 @@
 // What is found against the calls before anything is done: the refusal of the lowest number.
-use engine::areas::tx_count;
-use engine::fitness::is_queue;
+use crate::sharing::free_place;
+use element::TxHeader;
 use engine::fitness::is_unfit;
 use engine::refusals::Judged;
 use engine::refusals::Refusal;
 use engine::state::Record;
 use engine::state::State;
-use frame::Frame;
 use frame::is_malformed;
-use ring::Ring;
 use words::bits32;
 ghost use mathlib.Core.Path.{_≡_};
-ghost use Prim.Native.Nat.{_≤_};
-ghost use Rattle.ring.specs.Rings.{Fit};
+ghost use Rattle.words.specs.Rules.{first};
 ghost use Rattle.engine.specs.Answers.{ruled};
-ghost use Rattle.engine.specs.Areas.{dedicated, txCount, isQueue, eventSize};
-ghost use Rattle.engine.specs.Fitness.{fitThen};
-ghost use Rattle.sending.specs.Judging.{freeRuling, formRuling, pendingRuling, heldRuling};
+ghost use Rattle.engine.specs.Calls.{world};
+ghost use Rattle.requesting.specs.Cancelling.{cancelRefusals};
+ghost use Rattle.requesting.specs.Requesting.{dedicatedRefusals, sharedRefusals};
 
-// 21, and 23 and 24 of a buffer among so many dedicated ones.
-fn judge_free(f: Frame, len: usize, dedicated: u32, pending: u32, buffer: u32) -> Judged
-    requires { ⌜ dedicated ≤ 32 ⌝ }
-    ensures { λ j. ⌜ ruled j ≡ freeRuling f len dedicated pending buffer ⌝ }
+// Call 7, with so many bytes of data.
+pub fn judge_dedicated(
+    s: State,
+    recorded: Record,
+    mem: &[u32],
+    buffer: u32,
+    h: TxHeader,
+    len: usize,
+) -> Judged
+    ensures { λ j. ⌜ ruled j ≡ first (dedicatedRefusals (world s recorded (now (mem .entry))) buffer h len) ⌝ }
 {
-    if is_malformed(f, len) {
+    if is_unfit(s, recorded, mem.len()) {
+        return Judged::Refused(Refusal::Unfit);
+    }
+    if is_malformed(h.frame, len) {
         return Judged::Refused(Refusal::Malformed);
     }
-    if dedicated <= buffer {
+    if s.regs.txbc.dedicated() <= buffer {
         return Judged::Refused(Refusal::NoSuch);
     }
-    if bits32::test(pending, buffer) {
+    if bits32::test(s.pending, buffer) {
         return Judged::Refused(Refusal::AlreadyPending);
     }
     Judged::Allowed
 }
 
-// Call 7.
-pub fn judge_dedicated(
-    s: State,
-    status: Record,
-    words: usize,
-    f: Frame,
-    len: usize,
-    buffer: u32,
-) -> Judged
-    ensures { λ j. ⌜ ruled j ≡ fitThen s status words (freeRuling f len (dedicated (s .regs)) (s .pending) buffer) ⌝ }
+// Call 8.
+pub fn judge_shared(s: State, recorded: Record, mem: &[u32], h: TxHeader, len: usize) -> Judged
+    ensures { λ j. ⌜ ruled j ≡ first (sharedRefusals (world s recorded (now (mem .entry))) h len) ⌝ }
 {
-    if is_unfit(s, status, words) {
+    if is_unfit(s, recorded, mem.len()) {
         return Judged::Refused(Refusal::Unfit);
     }
-    judge_free(f, len, s.regs.txbc.dedicated(), s.pending, buffer)
-}
-
-// Call 8, but for the place.
-pub fn judge_form(s: State, status: Record, words: usize, f: Frame, len: usize) -> Judged
-    ensures { λ j. ⌜ ruled j ≡ fitThen s status words (formRuling f len) ⌝ }
-{
-    if is_unfit(s, status, words) {
-        return Judged::Refused(Refusal::Unfit);
-    }
-    if is_malformed(f, len) {
+    if is_malformed(h.frame, len) {
         return Judged::Refused(Refusal::Malformed);
+    }
+    if s.regs.txbc.shared() <= free_place(s) {
+        return Judged::Refused(Refusal::NoneFree);
     }
     Judged::Allowed
 }
 
-// 23, 26 and 27 of a buffer.
-fn judge_pending(count: u32, dedicated: u32, queue: bool, pending: u32, buffer: u32) -> Judged
-    requires { ⌜ count ≤ 32 ⌝ }
-    ensures { λ j. ⌜ ruled j ≡ pendingRuling count dedicated queue pending buffer ⌝ }
+// Call 9.
+pub fn judge_cancel(s: State, recorded: Record, mem: &[u32], buffer: u32) -> Judged
+    ensures { λ j. ⌜ ruled j ≡ first (cancelRefusals (world s recorded (now (mem .entry))) buffer) ⌝ }
 {
-    if count <= buffer {
+    if is_unfit(s, recorded, mem.len()) {
+        return Judged::Refused(Refusal::Unfit);
+    }
+    if s.regs.tx_count() <= buffer {
         return Judged::Refused(Refusal::NoSuch);
     }
-    if (dedicated <= buffer) & !queue {
+    if (s.regs.txbc.dedicated() <= buffer) & !s.regs.is_queue() {
         return Judged::Refused(Refusal::InSharedFifo);
     }
-    if bits32::test(pending, buffer) {
+    if bits32::test(s.pending, buffer) {
         return Judged::Allowed;
     }
     Judged::Refused(Refusal::NotPending)
-}
-
-// Call 9.
-pub fn judge_cancel(s: State, status: Record, words: usize, buffer: u32) -> Judged
-    ensures { λ j. ⌜ ruled j ≡ fitThen s status words (pendingRuling (txCount (s .regs)) (dedicated (s .regs)) (isQueue (s .regs)) (s .pending) buffer) ⌝ }
-{
-    if is_unfit(s, status, words) {
-        return Judged::Refused(Refusal::Unfit);
-    }
-    judge_pending(
-        tx_count(s.regs),
-        s.regs.txbc.dedicated(),
-        is_queue(s.regs),
-        s.pending,
-        buffer,
-    )
-}
-
-// 23 and 29 of a place in a ring.
-fn judge_held(q: Ring, size: u32, place: u32) -> Judged
-    requires { ⌜ Fit q size ⌝ }
-    ensures { λ j. ⌜ ruled j ≡ heldRuling q size place ⌝ }
-{
-    if size <= place {
-        return Judged::Refused(Refusal::NoSuch);
-    }
-    if ring::is_held(q, size, place) {
-        return Judged::Allowed;
-    }
-    Judged::Refused(Refusal::NotHeld)
-}
-
-// Calls 12 and 13.
-pub fn judge_event(s: State, status: Record, words: usize, place: u32) -> Judged
-    ensures { λ j. ⌜ ruled j ≡ fitThen s status words (heldRuling (s .events) (eventSize (s .regs)) place) ⌝ }
-{
-    if is_unfit(s, status, words) {
-        return Judged::Refused(Refusal::Unfit);
-    }
-    judge_held(s.events, s.regs.txefc.count(), place)
 }

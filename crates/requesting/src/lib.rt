@@ -1,5 +1,5 @@
-// Calls 7, 8, 9, 12 and 13: request a buffer, cancel, read and acknowledge an event.
+// Calls 7, 8 and 9: request a dedicated buffer, request the shared part, cancel.
 pub mod cancelling;
-pub mod events;
 mod judging;
 pub mod requesting;
+mod sharing;

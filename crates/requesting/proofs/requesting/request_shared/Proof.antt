@@ -1,37 +1,22 @@
-use Rattle.sending.proofs.Requests.{shared-refused, form-writable, shared-done}
+-- A refusal, or the request in the free buffer, by the shape of a call.
+use Rattle.engine.proofs.Calls.{judged-refused}
+use Rattle.requesting.proofs.Calls.{shared-done}
+use Rattle.requesting.proofs.Opens.{shared-can, shared-look, shared-room}
 use borrow.Author.Needs.{needs}
-use Rattle.sending.proofs.requesting.request_shared.Statement.{statement}
-use Rattle.sending.proofs.requesting.request_shared.Tie as tie
-
-judge-form-requires : tie.Need-judge-form-requires
-judge-form-requires c κs = search needs
-
-enum-known-n : tie.Need-enum-known-n
-enum-known-n c = search needs
-
-enum-told : tie.Need-enum-told
-enum-told c = search needs
-
-request-free-requires : tie.Need-request-free-requires
-request-free-requires c κs = search (form-writable, needs)
-
-returns : tie.Need-returns
-returns c = search (shared-refused, needs)
-
-same-length : tie.Need-same-length
-same-length c = search needs
-
-returns-2 : tie.Need-returns-2
-returns-2 c = search (shared-done, needs)
+use Rattle.requesting.proofs.requesting.request_shared.Statement.{statement}
+use Rattle.requesting.proofs.requesting.request_shared.Tie as tie
 
 pub request-shared-spec : {M : Type 1} → statement M
 request-shared-spec =
     tie.close
     (tie.spec
-    judge-form-requires
-    enum-known-n
-    enum-told
-    request-free-requires
-    returns
-    same-length
-    returns-2)
+    (λ c κs. search needs)
+    (λ c. search needs)
+    (λ c. search needs)
+    (λ c κs. search (shared-room, needs))
+    (λ c κs. search (shared-look, needs))
+    (λ c κs. search (shared-can, needs))
+    (λ c. search needs)
+    (λ c. search (judged-refused, needs))
+    (λ c. search needs)
+    (λ c. search (shared-done, needs)))
