@@ -2,8 +2,9 @@ pub mod Cases
 pub mod Unfitness
 pub mod Sounds
 pub mod Buffers
-pub mod Raised
 pub mod Calls
+pub mod Alike
 pub mod Replies
 pub mod Keeps
+pub mod Records
 pub mod Fits

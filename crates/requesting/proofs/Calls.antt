@@ -1,13 +1,12 @@
 -- The returns of calls 7, 8 and 9, one law each.
 -- Assumes nothing.
 use Prim.Native.Nat.{ℕ}
-use mathlib.Core.Path.{_≡_, refl, sym, ap, ap₂, _∙_, subst}
+use mathlib.Core.Path.{_≡_, sym, ap, ap₂, _∙_, subst}
 use mathlib.Core.List.{List, []}
-use lib.ListN.{length}
 use Rattle.words.specs.Rules.{first}
 use Rattle.words.specs.Runs.{splice}
 use Rattle.ring.specs.declared.Ring.{Ring}
-use Rattle.shape.specs.Calls.{Says, answers, done, settles, leaves, call}
+use Rattle.shape.specs.Calls.{Says, answers, done, settles, call}
 use Rattle.shape.specs.Refusals.{Refusals}
 use Rattle.element.specs.Elements.{txElement}
 use Rattle.element.specs.declared.TxHeader.{TxHeader}
@@ -22,7 +21,7 @@ use Rattle.engine.specs.declared.refusals.Judged.the-variants.{Allowed}
 use Rattle.engine.specs.declared.state.State.{State}
 use Rattle.engine.specs.declared.state.Record.{Record}
 use Rattle.engine.proofs.Calls.{judged-done}
-use Rattle.requesting.specs.Cancelling.{cancelRefusals, cancelledState, cancel}
+use Rattle.requesting.specs.Cancelling.{cancelRefusals, cancelledState, cancels, cancel}
 use Rattle.requesting.specs.Needs.{Requestable}
 use Rattle.requesting.specs.Places.{requested, freeBuffer, sharedAfter}
 use Rattle.requesting.specs.Requesting.{meaning, written, requests}
@@ -30,7 +29,8 @@ use Rattle.requesting.specs.declared.requesting.Requested.{Requested}
 
 -- ---- in a buffer
 
-pub element-written : (mem last : List ℕ) (a : Area) (buffer at n : ℕ) (h : TxHeader) (d : List ℕ) → at ≡ placeIn a buffer
+pub element-written : (mem last : List ℕ) (a : Area) (buffer at n : ℕ) (h : TxHeader) (d : List ℕ)
+    → at ≡ placeIn a buffer
     → n ≡ dataWords a → last ≡ splice mem at (txElement h d n) → last ≡ written mem a buffer h d
 unfolding written
 element-written mem last a buffer at n h d e u q = q ∙ ap₂ (λ (k i : ℕ). splice mem k (txElement h d i)) e u
@@ -39,12 +39,14 @@ module _ (s : State) (buffer : ℕ) (h : TxHeader) (a : Area) (e : a ≡ txArea 
   pub area-place : (words : ℕ) → Requestable s words buffer h → HasPlace a buffer words
   area-place words r = subst (λ (x : Area). HasPlace x buffer words) (sym e) (r .element)
 
-  pub area-written : (mem last d : List ℕ) → last ≡ written mem a buffer h d → last ≡ written mem (txArea (s .regs)) buffer h d
+  pub area-written : (mem last d : List ℕ) → last ≡ written mem a buffer h d
+      → last ≡ written mem (txArea (s .regs)) buffer h d
   area-written mem last d q = q ∙ ap (λ (x : Area). written mem x buffer h d) e
 
 -- ---- calls 7 and 8
 
-module _ (s : State) (r : Record) (mem : List ℕ) (rows : Refusals) (j : Judged) (t : ruled j ≡ first rows) (y : j ≡ Allowed)
+module _ (s : State) (r : Record) (mem : List ℕ) (rows : Refusals) (j : Judged) (t : ruled j ≡ first rows)
+    (y : j ≡ Allowed)
     (h : TxHeader) (d : List ℕ) where
   pub request-done : (ring : Ring) (buffer : ℕ) (x : Requested) (u : State) (last : List ℕ) → meaning x ≡ answers buffer
       → u ≡ requested s ring buffer → last ≡ written mem (txArea (s .regs)) buffer h d
@@ -70,6 +72,5 @@ pub cancel-done : (s : State) (r : Record) (mem : List ℕ) (buffer : ℕ) (j : 
     → ruled j ≡ first (cancelRefusals (world s r mem) buffer) → j ≡ Allowed → (u : State) (n : Record)
     → u ≡ cancelledState s buffer → n ≡ raised r 10 → settles done (world u n mem) ≡ cancel (world s r mem) buffer
 cancel-done s r mem buffer j t y u n p q =
-    judged-done (world s r mem) [] (cancelRefusals (world s r mem) buffer)
-    (leaves (world (cancelledState s buffer) (raised r 10) mem)) j t _ y
+    judged-done (world s r mem) [] (cancelRefusals (world s r mem) buffer) (cancels (world s r mem) buffer) j t _ y
     (ap₂ (λ (x : State) (m : Record). settles done (world x m mem)) p q)

@@ -19,12 +19,13 @@ use Rattle.engine.specs.Calls.{world}
 use Rattle.engine.specs.Fitness.{unfit, Sound}
 use Rattle.engine.specs.declared.refusals.Judged.{Judged}
 use Rattle.engine.specs.declared.refusals.Judged.the-variants.{Allowed, Refused}
-use Rattle.engine.specs.declared.refusals.Refusal.the-variants.{Unfit, Malformed, NoSuch, AlreadyPending, NoneFree, InSharedFifo, NotPending}
+use Rattle.engine.specs.declared.refusals.Refusal.the-variants.{Unfit, Malformed, NoSuch, AlreadyPending, NoneFree}
+use Rattle.engine.specs.declared.refusals.Refusal.the-variants.{InSharedFifo, NotPending}
 use Rattle.engine.specs.declared.state.State.{State}
 use Rattle.engine.specs.declared.state.Record.{Record}
 use Rattle.engine.proofs.Sounds.{sound-of}
 use Rattle.requesting.specs.Cancelling.{cancelRefusals}
-use Rattle.requesting.specs.Needs.{SharedCanLook}
+use Rattle.requesting.specs.Needs.{CanFindPlace}
 use Rattle.requesting.specs.Places.{freePlace, noneFree}
 use Rattle.requesting.specs.Requesting.{notDedicated, dedicatedRefusals, sharedRefusals}
 
@@ -135,7 +136,7 @@ module _ (s : State) (r : Record) (mem : List ℕ) (b : Bool) (e : b ≡ unfit s
     pub existing-small : (n buffer : ℕ) → n ≡ txCount (s .regs) → buffer < n → buffer < 32
     existing-small n buffer t l = omega (arith, sound z .legal .counted .together)
 
-    pub can-look : SharedCanLook s
+    pub can-look : CanFindPlace s
     can-look = let h = sound z in record { few = h .legal .counted .together; bits = h .pending; ring = h .shared }
 
 pub ruleset dedicateds = (dedicated-unfit, dedicated-malformed, dedicated-none, dedicated-taken, dedicated-free)

@@ -1,8 +1,8 @@
 -- What is known where nothing is against a call, and so what its helpers ask.
 -- Assumes nothing.
-use Prim.Native.Nat.{ℕ, _+_, _<_}
+use Prim.Native.Nat.{ℕ, _<_}
 use mathlib.Core.Path.{_≡_, sym, ap, _∙_}
-use mathlib.Core.Bool.{Bool, true, false, not}
+use mathlib.Core.Bool.{true, false, not}
 use mathlib.Core.List.{List, [], _∷_}
 use borrow.Author.Tests.{leb-false, not-false}
 use native.Mathlib.Omega.{arith}
@@ -25,7 +25,7 @@ use Rattle.engine.proofs.Buffers.{buffer-small}
 use Rattle.engine.proofs.Calls.{row-off}
 use Rattle.engine.proofs.Sounds.{sound-of}
 use Rattle.requesting.specs.Cancelling.{cancelRefusals}
-use Rattle.requesting.specs.Needs.{Requestable, SharedCanLook, SharedRoom}
+use Rattle.requesting.specs.Needs.{Requestable, CanFindPlace, SharedRoom}
 use Rattle.requesting.specs.Places.{freePlace, noneFree, freeBuffer}
 use Rattle.requesting.specs.Requesting.{notDedicated, dedicatedRefusals, sharedRefusals}
 use Rattle.requesting.proofs.Places.{free-room}
@@ -44,7 +44,8 @@ unfolding dedicatedRefusals
 dedicated-open w buffer h bytes e =
     let s = w .state in
     let p =
-    row-off 20 _ (21 when malformed (h .frame) bytes ∷ 23 when notDedicated s buffer ∷ 24 when isPending s buffer ∷ []) e in
+    row-off 20 _ (21 when malformed (h .frame) bytes ∷ 23 when notDedicated s buffer ∷ 24 when isPending s buffer ∷ [])
+    e in
     let q = row-off 21 _ (23 when notDedicated s buffer ∷ 24 when isPending s buffer ∷ []) (p .1) in
     let t = row-off 23 _ (24 when isPending s buffer ∷ []) (q .1) in
     record {
@@ -61,7 +62,8 @@ pub record SharedOpen (w : World) (h : TxHeader) (bytes : ℕ) : Type 0 where
   pub formed : malformed (h .frame) bytes ≡ false
   pub number : freePlace (w .state) < shared (w .state .regs)
 
-pub shared-open : (w : World) (h : TxHeader) (bytes : ℕ) → first (sharedRefusals w h bytes) ≡ allowed → SharedOpen w h bytes
+pub shared-open : (w : World) (h : TxHeader) (bytes : ℕ) → first (sharedRefusals w h bytes) ≡ allowed
+    → SharedOpen w h bytes
 unfolding sharedRefusals
 shared-open w h bytes e =
     let p = row-off 20 _ (21 when malformed (h .frame) bytes ∷ 25 when noneFree (w .state) ∷ []) e in
@@ -85,7 +87,8 @@ unfolding cancelRefusals
 cancel-open w buffer e =
     let s = w .state in
     let p =
-    row-off 20 _ (23 when noTxBuffer s buffer ∷ 26 when inSharedFifo s buffer ∷ 27 when not (isPending s buffer) ∷ []) e in
+    row-off 20 _ (23 when noTxBuffer s buffer ∷ 26 when inSharedFifo s buffer ∷ 27 when not (isPending s buffer) ∷ []) e
+    in
     let q = row-off 23 _ (26 when inSharedFifo s buffer ∷ 27 when not (isPending s buffer) ∷ []) (p .1) in
     let t = row-off 26 _ (27 when not (isPending s buffer) ∷ []) (q .1) in
     record {
@@ -101,7 +104,8 @@ pub open-sound : (w : World) → isUnfit w ≡ false → Sound (w .state) (lengt
 open-sound w e = sound-of (w .state) (w .recorded) (length (w .memory)) e
 
 -- a frame that is not malformed can be written to a buffer that exists
-requestable : (w : World) (buffer : ℕ) (h : TxHeader) (bytes : ℕ) → isUnfit w ≡ false → malformed (h .frame) bytes ≡ false
+requestable : (w : World) (buffer : ℕ) (h : TxHeader) (bytes : ℕ) → isUnfit w ≡ false
+    → malformed (h .frame) bytes ≡ false
     → buffer < txCount (w .state .regs) → Requestable (w .state) (length (w .memory)) buffer h
 requestable w buffer h bytes fit formed l =
     let sound = open-sound w fit in
@@ -112,7 +116,8 @@ requestable w buffer h bytes fit formed l =
     }
 
 module _ (w : World) (h : TxHeader) (bytes : ℕ) where
-  pub dedicated-requestable : (buffer : ℕ) → DedicatedOpen w buffer h bytes → Requestable (w .state) (length (w .memory)) buffer h
+  pub dedicated-requestable : (buffer : ℕ) → DedicatedOpen w buffer h bytes
+      → Requestable (w .state) (length (w .memory)) buffer h
   dedicated-requestable buffer o = requestable w buffer h bytes (o .fit) (o .formed) (omega (arith, o .number))
 
   pub shared-requestable : SharedOpen w h bytes → Requestable (w .state) (length (w .memory)) (freeBuffer (w .state)) h
@@ -124,7 +129,8 @@ module _ (s : State) (r : Record) (mem : List ℕ) (j : Judged) (y : j ≡ Allow
   pub dedicated-can : (buffer : ℕ) (h : TxHeader) (len : ℕ)
       → ruled j ≡ first (dedicatedRefusals (world s r mem) buffer h len) → Requestable s (length mem) buffer h
   dedicated-can buffer h len e =
-      dedicated-requestable (world s r mem) h len buffer (dedicated-open (world s r mem) buffer h len (sym e ∙ ap ruled y))
+      dedicated-requestable (world s r mem) h len buffer
+      (dedicated-open (world s r mem) buffer h len (sym e ∙ ap ruled y))
 
   module _ (h : TxHeader) (len : ℕ) (e : ruled j ≡ first (sharedRefusals (world s r mem) h len)) where
     is-open : SharedOpen (world s r mem) h len
@@ -133,7 +139,7 @@ module _ (s : State) (r : Record) (mem : List ℕ) (j : Judged) (y : j ≡ Allow
     pub shared-can : (buffer : ℕ) → buffer ≡ freeBuffer s → Requestable s (length mem) buffer h
     shared-can buffer q = rw q (shared-requestable (world s r mem) h len is-open)
 
-    pub shared-look : SharedCanLook s
+    pub shared-look : CanFindPlace s
     shared-look =
         let sound = open-sound (world s r mem) (is-open .fit) in
         record { few = sound .legal .counted .together; bits = sound .pending; ring = sound .shared }

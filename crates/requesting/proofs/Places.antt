@@ -22,7 +22,7 @@ use Rattle.registers.specs.Fields.{dedicated, shared, isQueue}
 use Rattle.engine.specs.Buffers.{isPending}
 use Rattle.engine.specs.declared.state.State.{State}
 use Rattle.engine.proofs.Cases.{fifo-ring}
-use Rattle.requesting.specs.Needs.{QueueFits, SharedCanLook, SharedRoom}
+use Rattle.requesting.specs.Needs.{QueueFits, CanFindPlace, SharedRoom}
 use Rattle.requesting.specs.Places.{queuePlace, freePlace, sharedAfter}
 
 -- ---- a queue's, of plain numbers
@@ -53,8 +53,12 @@ module _ (pending dedicated shared : ℕ) (f : QueueFits pending dedicated share
   module _ (p : ℕ) (l : LowestClear 32 (pending / 2 ^ dedicated) p) where
     not-past : shared < p → ⊥
     not-past h =
-        omega
-        (arith, l .below shared h, shifted-bit pending dedicated shared, past-clear pending (dedicated + shared) (f .bits))
+        omega (
+          arith,
+          l .below shared h,
+          shifted-bit pending dedicated shared,
+          past-clear pending (dedicated + shared) (f .bits),
+        )
 
     below-set : (i : ℕ) → i < p → clearFrom pending dedicated i ≡ false
     below-set i h = is-clear pending dedicated i 1 (l .below i h)
@@ -73,7 +77,8 @@ module _ (pending dedicated shared : ℕ) (f : QueueFits pending dedicated share
         go false e false t =
             let q : p ≡ shared = omega (arith, ltb-false p shared e, ltb-false shared p t) in
             q
-            ∙ sym (least-absent (clearFrom pending dedicated) 0 shared (λ i a b. below-set i (omega arith)) ∙ zero-add shared)
+            ∙ sym
+            (least-absent (clearFrom pending dedicated) 0 shared (λ i a b. below-set i (omega arith)) ∙ zero-add shared)
 
 -- ---- a FIFO's
 
@@ -86,20 +91,21 @@ module _ (q : Ring) (size : ℕ) where
 
 -- ---- of a state
 
-module _ (s : State) (n : ℕ) (h : SharedCanLook s) (e : n ≡ shared (s .regs)) (b : Bool) (q : b ≡ isQueue (s .regs)) where
-  pub queue-fits : (m : ℕ) → m ≡ dedicated (s .regs) → QueueFits (s .pending) m n
-  queue-fits m t = rw (t, e) (record { few = h .few; bits = h .bits })
+module _ (s : State) (n : ℕ) (h : CanFindPlace s) (e : n ≡ shared (s .regs)) (b : Bool) (q : b ≡ isQueue (s .regs))
+  where
+    pub queue-fits : (m : ℕ) → m ≡ dedicated (s .regs) → QueueFits (s .pending) m n
+    queue-fits m t = rw (t, e) (record { few = h .few; bits = h .bits })
 
-  pub queue-found : b ≡ true → (m p : ℕ) → m ≡ dedicated (s .regs) → p ≡ queuePlace (s .pending) m n → p ≡ freePlace s
-  unfolding freePlace queuePlace
-  queue-found y m p t u = u ∙ simp (e, t, ← q, y)
+    pub queue-found : b ≡ true → (m p : ℕ) → m ≡ dedicated (s .regs) → p ≡ queuePlace (s .pending) m n → p ≡ freePlace s
+    unfolding freePlace queuePlace
+    queue-found y m p t u = u ∙ simp (e, t, ← q, y)
 
-  pub fifo-fits : b ≡ false → Fit (s .shared) n
-  fifo-fits z = rw (fifo-ring (s .regs) b q z n e) (h .ring)
+    pub fifo-fits : b ≡ false → Fit (s .shared) n
+    fifo-fits z = rw (fifo-ring (s .regs) b q z n e) (h .ring)
 
-  pub fifo-found : b ≡ false → (p : ℕ) → p ≡ pick (ltb (s .shared .fill) n) (putPlace (s .shared) n) n → p ≡ freePlace s
-  unfolding freePlace
-  fifo-found z p u = u ∙ simp (e, ← q, z)
+    pub fifo-found : b ≡ false → (p : ℕ) → p ≡ pick (ltb (s .shared .fill) n) (putPlace (s .shared) n) n → p ≡ freePlace s
+    unfolding freePlace
+    fifo-found z p u = u ∙ simp (e, ← q, z)
 
 -- the two ways of a free place
 module _ (s : State) where
@@ -111,7 +117,8 @@ module _ (s : State) where
       (pick (ltb (s .shared .fill) (shared (s .regs))) (putPlace (s .shared) (shared (s .regs))) (shared (s .regs))) e
 
   pub free-fifo : isQueue (s .regs) ≡ false
-      → freePlace s ≡ pick (ltb (s .shared .fill) (shared (s .regs))) (putPlace (s .shared) (shared (s .regs))) (shared (s .regs))
+      → freePlace s ≡ pick (ltb (s .shared .fill) (shared (s .regs))) (putPlace (s .shared) (shared (s .regs)))
+      (shared (s .regs))
   unfolding freePlace
   free-fifo e = pick-second (leastFrom (λ p. not (isPending s (dedicated (s .regs) + p))) 0 (shared (s .regs))) _ e
 
@@ -123,7 +130,8 @@ module _ (s : State) where
       put : ℕ
       put = putPlace (s .shared) (shared (s .regs))
 
-      go : (t : Bool) → ltb (s .shared .fill) (shared (s .regs)) ≡ t → (s .shared .fill < shared (s .regs)) × (freePlace s ≡ put)
+      go : (t : Bool) → ltb (s .shared .fill) (shared (s .regs)) ≡ t
+          → (s .shared .fill < shared (s .regs)) × (freePlace s ≡ put)
       go true y = (ltb-true (s .shared .fill) (shared (s .regs)) y, free-fifo e ∙ pick-first put (shared (s .regs)) y)
       go false n = absurd (omega (arith, free-fifo e ∙ pick-second put (shared (s .regs)) n))
 
@@ -138,7 +146,8 @@ module _ (s : State) where
       low : ℕ
       low = leastFrom (λ p. not (isPending s (dedicated (s .regs) + p))) 0 (shared (s .regs))
 
-      go : (a b : Bool) → ltb (s .shared .fill) (shared (s .regs)) ≡ b → pick a low (pick b put (shared (s .regs))) ≤ shared (s .regs)
+      go : (a b : Bool) → ltb (s .shared .fill) (shared (s .regs)) ≡ b
+          → pick a low (pick b put (shared (s .regs))) ≤ shared (s .regs)
       go true b e =
           omega (arith, least-within (λ p. not (isPending s (dedicated (s .regs) + p))) 0 (shared (s .regs)))
       go false true e =

@@ -6,7 +6,7 @@ use Rattle.words.specs.Bits.{withBit, withoutBit}
 use Rattle.shape.specs.Calls.{leaves, call}
 use Rattle.shape.specs.Refusals.{Refusals}
 use Rattle.engine.specs.Buffers.{noTxBuffer, isPending, inSharedFifo}
-use Rattle.engine.specs.Calls.{World, world, Outcome, _when_, isUnfit}
+use Rattle.engine.specs.Calls.{World, world, Outcome, Effect, _when_, isUnfit}
 use Rattle.engine.specs.Flags.{raised}
 use Rattle.engine.specs.States.{withTx}
 use Rattle.engine.specs.declared.state.State.{State}
@@ -25,8 +25,10 @@ abbrev pub cancelledState : State → ℕ → State
 cancelledState s buffer =
     withTx s (s .shared) (withoutBit 32 (s .pending) buffer) (s .sent) (withBit (s .cancelled) buffer)
 
--- call 9: flag 10 is set
+-- flag 10 is set
+abbrev pub cancels : World → ℕ → Effect (Unit {0})
+cancels w buffer = leaves (world (cancelledState (w .state) buffer) (raised (w .recorded) 10) (w .memory))
+
+-- call 9
 abbrev pub cancel : World → ℕ → Outcome (Unit {0})
-cancel w buffer =
-    call w [] (cancelRefusals w buffer)
-    (leaves (world (cancelledState (w .state) buffer) (raised (w .recorded) 10) (w .memory)))
+cancel w buffer = call w [] (cancelRefusals w buffer) (cancels w buffer)

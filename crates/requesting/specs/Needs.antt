@@ -22,8 +22,8 @@ pub record QueueFits (pending dedicated shared : ℕ) : Type 0 where
   pub few : dedicated + shared ≤ 32
   pub bits : pending < 2 ^ (dedicated + shared)
 
--- a free place can be looked for in the shared part
-pub record SharedCanLook (s : State) : Type 0 where
+-- a free place can be looked for
+pub record CanFindPlace (s : State) : Type 0 where
   pub few : txCount (s .regs) ≤ 32
   pub bits : s .pending < 2 ^ txCount (s .regs)
   pub ring : Fit (s .shared) (sharedRingSize (s .regs))

@@ -7,7 +7,7 @@ ghost use Prim.Native.Nat.{_+_};
 ghost use lib.Dec.{ltb};
 ghost use Rattle.words.specs.Choice.{pick};
 ghost use Rattle.ring.specs.Rings.{Fit, putPlace};
-ghost use Rattle.requesting.specs.Needs.{QueueFits, SharedCanLook, SharedRoom};
+ghost use Rattle.requesting.specs.Needs.{QueueFits, CanFindPlace, SharedRoom};
 ghost use Rattle.requesting.specs.Places.{queuePlace, freePlace, freeBuffer, sharedAfter};
 
 // A queue's lowest-numbered buffer that is not pending, or their number: the trailing zeros of the complemented pending
@@ -36,7 +36,7 @@ fn fifo_place(q: Ring, size: u32) -> u32
 
 // The place in the shared part that a request takes, or their number where none is free.
 pub fn free_place(s: State) -> u32
-    requires { ⌜ SharedCanLook s ⌝ }
+    requires { ⌜ CanFindPlace s ⌝ }
     ensures { λ p. ⌜ p ≡ freePlace s ⌝ }
 {
     let shared = s.regs.txbc.shared();
@@ -48,7 +48,7 @@ pub fn free_place(s: State) -> u32
 
 // The buffer at that place.
 pub fn free_buffer(s: State) -> u32
-    requires { ⌜ SharedCanLook s ⌝ }
+    requires { ⌜ CanFindPlace s ⌝ }
     ensures { λ b. ⌜ b ≡ freeBuffer s ⌝ }
 {
     s.regs.txbc.dedicated() + free_place(s)
