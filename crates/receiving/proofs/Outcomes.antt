@@ -31,7 +31,8 @@ goes-within w f bytes o =
 
 module _ (w : World) (f : Frame) (d : List ℕ) (time : ℕ) where
   module _ (free : ReceiveOpen w f (length d)) (P : Effect Fate → Type 0)
-      (fifo : (k : ℕ) (priority : Bool) (m : Matched) → k ≤ 1 → indexOf m < 128 → P (intoFifo w k priority (arrival f time m) d))
+      (fifo : (k : ℕ) (priority : Bool) (m : Matched) → k ≤ 1 → indexOf m < 128
+      → P (intoFifo w k priority (arrival f time m) d))
       (buffer : (b i : ℕ) → b < w .state .regs .buffers → bit (w .state .newdata) b ≡ 0 → i < 128
       → P (intoBuffer w b (arrival f time (Filter i)) d))
       (nowhere : (why : ℕ) (m : Matched) → indexOf m < 128 → P (intoNothing w why (arrival f time m))) where

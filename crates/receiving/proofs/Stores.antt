@@ -40,7 +40,8 @@ module _ (area : Area) (slot : Slot) where
   slot-place a words p h e = record { element = record { room = h .room; within = h .within p e }; fields = h .fields }
 
   module _ (mem ws : List ℕ) where
-    pub put-at : (last : List ℕ) (p : ℕ) → slot ≡ At p → last ≡ splice mem (placeIn area p) ws → last ≡ slotMemory mem area ws slot
+    pub put-at : (last : List ℕ) (p : ℕ) → slot ≡ At p → last ≡ splice mem (placeIn area p) ws
+        → last ≡ slotMemory mem area ws slot
     put-at last p e h = rw e h
 
     pub put-nowhere : slot ≡ Lost → mem ≡ slotMemory mem area ws slot
@@ -48,9 +49,9 @@ module _ (area : Area) (slot : Slot) where
 
 -- ---- what a FIFO keeps
 
-module _ (s : State) (fifo : ℕ) (w : Rxfc) (size mark mode : ℕ) (q : Ring) (e : w .word ≡ fifoWord (s .regs) fifo)
-    (a : size ≡ field rxfcCount (w .word)) (b : mark ≡ field rxfcWatermark (w .word)) (c : mode ≡ field rxfcOverwrite (w .word))
-    (y : q ≡ fifoRing s fifo) where
+module _ (s : State) (fifo : ℕ) (w : Rxfc) (size mark mode : ℕ) (q : Ring)
+    (e : w .word ≡ fifoWord (s .regs) fifo) (a : size ≡ field rxfcCount (w .word)) (b : mark ≡ field rxfcWatermark (w .word))
+    (c : mode ≡ field rxfcOverwrite (w .word)) (y : q ≡ fifoRing s fifo) where
   abbrev made : Keeper
   made = record { size = size; mark = mark; overwrites = eqb mode 1; first = 4 * fifo }
 
@@ -60,5 +61,6 @@ module _ (s : State) (fifo : ℕ) (w : Rxfc) (size mark mode : ℕ) (q : Ring) (
   pub can-keep : RingFits s fifo → CanKeep made q
   can-keep h = record { ring = rw (y, a, e) (h .ring); flags = omega (arith, h .number) }
 
-  pub kept-in : (r : Record) (k : Kept) → k ≡ keepRule made q r → k ≡ keepRule (keeperOf (s .regs) fifo) (fifoRing s fifo) r
+  pub kept-in : (r : Record) (k : Kept) → k ≡ keepRule made q r
+      → k ≡ keepRule (keeperOf (s .regs) fifo) (fifoRing s fifo) r
   kept-in r k h = h ∙ ap₂ (λ (x : Keeper) (p : Ring). keepRule x p r) made-is y
