@@ -34,8 +34,6 @@ use Rattle.areas.proofs.Sections.{areas-are-sections}
 use Rattle.engine.specs.Calls.{World, Outcome, Effect}
 use Rattle.engine.specs.Keeping.{keepRule}
 use Rattle.engine.specs.States.{fifoRing}
-use Rattle.engine.proofs.Keeps.{kept-within}
-use Rattle.engine.proofs.Sounds.{ring-fits}
 use Rattle.receiving.specs.Fifos.{keeperOf}
 use Rattle.receiving.specs.Promises.{storedIn, namedBy, OneElement, ReceiveWritesOneElement}
 use Rattle.receiving.specs.Promises.{HoldsFrame, StoredIsThere}
@@ -43,6 +41,7 @@ use Rattle.receiving.specs.Receive.{Fate, arrival, slotSays, receiveRefu
 use Rattle.receiving.specs.Receive.{intoFifo, intoBuffer, intoNothing, receives}
 use Rattle.receiving.proofs.Judgements.{ReceiveOpen, receive-open}
 use Rattle.receiving.proofs.Outcomes.{receives-cases, receive-cases}
+use Rattle.receiving.proofs.Stores.{slot-within}
 
 -- ---- at a place of an area
 
@@ -90,22 +89,19 @@ none-written g mem = record { only = only-none (front 0) mem; own = λ k x. absu
 
 -- ---- by a receive
 
-module _ (w : World) (f : Frame) (d : List ℕ) (time : ℕ) (free : ReceiveOpen w f (length d)) where
+module _ (w : World) (f : Frame) (d : List ℕ) (time : ℕ) (passed : ReceiveOpen w f (length d)) where
   abbrev g : Registers
   g = w .state .regs
 
-  -- a slot's place is one of the FIFO's
-  pub slot-within : (k : ℕ) → k ≤ 1 → (p : ℕ)
+  within : (k : ℕ) → k ≤ 1 → (p : ℕ)
       → keepRule (keeperOf g k) (fifoRing (w .state) k) (w .recorded) .slot ≡ At p → p < fifoSize g k
-  slot-within k l =
-      kept-within (keeperOf g k) (fifoRing (w .state) k) (w .recorded)
-      (record { ring = ring-fits (w .state) (length (w .memory)) k (free .sound); flags = omega arith })
+  within k l = slot-within (w .state) (length (w .memory)) k (w .recorded) (passed .sound) l
 
   fifo-room : (k : ℕ) → Roomy (fifoArea g k) (length (w .memory))
-  fifo-room k = fifo-roomy g (length (w .memory)) (free .sound .legal) k
+  fifo-room k = fifo-roomy g (length (w .memory)) (passed .sound .legal) k
 
   buffer-room : Roomy (bufferArea g) (length (w .memory))
-  buffer-room = buffer-roomy g (length (w .memory)) (free .sound .legal)
+  buffer-room = buffer-roomy g (length (w .memory)) (passed .sound .legal)
 
   -- what is to be shown of the effect
   abbrev There : Effect Fate → Type 0
@@ -135,16 +131,16 @@ module _ (w : World) (f : Frame) (d : List ℕ) (time : ℕ) (free : ReceiveOpen
   effect-there : There (receives w f d time)
   unfolding intoFifo intoBuffer intoNothing
   effect-there =
-      receives-cases w f d time free There
-      (λ k priority m l x. slot-there k m _ (slot-within k l))
+      receives-cases w f d time passed There
+      (λ k priority m l x. slot-there k m _ (within k l))
       (λ b i l z x. arrival-there (w .memory) (bufferArea g) buffer-room b l _ d)
       (λ why m x. tt)
 
   effect-one : One (receives w f d time)
   unfolding intoFifo intoBuffer intoNothing
   effect-one =
-      receives-cases w f d time free One
-      (λ k priority m l x. slot-one k m l _ (slot-within k l))
+      receives-cases w f d time passed One
+      (λ k priority m l x. slot-one k m l _ (within k l))
       (λ b i l z x. record {
         only = arrival-only (w .memory) (bufferArea g) buffer-room b l _ d;
         own = λ n y. (4, omega arith, omega arith, buffer-has g b n l y);

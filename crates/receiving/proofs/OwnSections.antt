@@ -1,6 +1,6 @@
 -- A receive looks at the words of sections 0 to 4 alone, and changes alike what is alike in them.
 -- Assumes nothing.
-use Prim.Native.Nat.{ℕ, _+_, _≤_, _<_}
+use Prim.Native.Nat.{ℕ, _≤_, _<_}
 use mathlib.Core.Path.{_≡_, refl, ap, subst}
 use mathlib.Core.Bool.{Bool, true, false, not, _&&_}
 use mathlib.Core.List.{List, [], _∷_}
@@ -38,9 +38,10 @@ use Rattle.engine.proofs.Alike.{store-alike, call-alike}
 use Rattle.receiving.specs.Fifos.{keeperOf}
 use Rattle.receiving.specs.Promises.{ReceiveReadsItsSections}
 use Rattle.receiving.specs.Receive.{receiveRefusals, intoFifo, intoBuffer, intoNothing, goesTo, receives}
-use Rattle.receiving.proofs.Elements.{arrival-length, slot-within}
+use Rattle.receiving.proofs.Elements.{arrival-length}
 use Rattle.receiving.proofs.Judgements.{ReceiveOpen, receive-open}
 use Rattle.receiving.proofs.Outcomes.{goes-within}
+use Rattle.receiving.proofs.Stores.{slot-within}
 
 -- the filter list of each kind is one of these sections
 pub lists-same : (g : Registers) (mem other : List ℕ) → SameSections g receivingSections mem other → (xtd : Bool)
@@ -50,7 +51,8 @@ lists-same g mem other same xtd = record { size = same .size; within = go xtd }
     word : (i k : ℕ) → i < 5 → Has g i k → getD other k 0 ≡ getD mem k 0
     word i k l h = same .words i k (record { from = omega arith; below = omega arith }) h
 
-    go : (x : Bool) → let r = listRange (listOf g x) in (k : ℕ) → r .from ≤ k → k < rangeEnd r → getD other k 0 ≡ getD mem k 0
+    go : (x : Bool) → let r = listRange (listOf g x) in
+        (k : ℕ) → r .from ≤ k → k < rangeEnd r → getD other k 0 ≡ getD mem k 0
     go true k a b = word 1 k (omega arith) (record { from = a; below = omega arith })
     go false k a b = word 0 k (omega arith) (record { from = a; below = omega arith })
 
@@ -78,7 +80,7 @@ module _ (w : World) (other : List ℕ) (f : Frame) (d : List ℕ) (time : ℕ)
   slot-alike area a room (At p) h = arrival-alike area p a room (h p refl)
   slot-alike area a room Lost h = same
 
-  module _ (free : ReceiveOpen w f (length d)) where
+  module _ (passed : ReceiveOpen w f (length d)) where
     goes-alike : (x : Goes) → Within g (w .state .newdata) x
         → Alike receivingSections (effected (goesTo w f d time x)) (effected (goesTo v f d time x))
     unfolding intoFifo intoBuffer intoNothing withFifo
@@ -87,15 +89,16 @@ module _ (w : World) (other : List ℕ) (f : Frame) (d : List ℕ) (time : ℕ)
       state = refl;
       recorded = refl;
       memory =
-          slot-alike (fifoArea g k) _ (fifo-roomy g (length (w .memory)) (free .sound .legal) k)
-          (keepRule (keeperOf g k) (fifoRing (w .state) k) (w .recorded) .slot) (slot-within w f d time free k (b .0));
+          slot-alike (fifoArea g k) _ (fifo-roomy g (length (w .memory)) (passed .sound .legal) k)
+          (keepRule (keeperOf g k) (fifoRing (w .state) k) (w .recorded) .slot)
+          (slot-within (w .state) (length (w .memory)) k (w .recorded) (passed .sound) (b .0));
       output = refl;
     }
     goes-alike (toBuffer n i) b = record {
       says = refl;
       state = refl;
       recorded = refl;
-      memory = arrival-alike (bufferArea g) n _ (buffer-roomy g (length (w .memory)) (free .sound .legal)) (b .0);
+      memory = arrival-alike (bufferArea g) n _ (buffer-roomy g (length (w .memory)) (passed .sound .legal)) (b .0);
       output = refl;
     }
     goes-alike (discarded why m) b = record { says = refl; state = refl; recorded = refl; memory = same; output = refl }
@@ -106,7 +109,7 @@ module _ (w : World) (other : List ℕ) (f : Frame) (d : List ℕ) (time : ℕ)
         subst (λ (x : Goes). Alike receivingSections (effected (receives w f d time)) (effected (goesTo v f d time x)))
         (destination-reads-its-list g (w .memory) other f (w .state .newdata)
         (lists-same g (w .memory) other same (f .xtd)))
-        (goes-alike (destination g (w .memory) f (w .state .newdata)) (goes-within w f (length d) free))
+        (goes-alike (destination g (w .memory) f (w .state .newdata)) (goes-within w f (length d) passed))
 
   rows-same : first (receiveRefusals v f (length d)) ≡ first (receiveRefusals w f (length d))
   unfolding receiveRefusals

@@ -36,7 +36,6 @@ use Rattle.engine.specs.States.{fifoRing, withFifo, withNewData}
 use Rattle.engine.specs.declared.keeping.Kept.{Kept}
 use Rattle.engine.specs.declared.state.State.{State}
 use Rattle.engine.specs.declared.state.Record.{Record}
-use Rattle.engine.proofs.Keeps.{kept-within}
 use Rattle.engine.proofs.Sounds.{ring-fits}
 use Rattle.receiving.specs.Fifos.{keeperOf}
 use Rattle.receiving.specs.Needs.{CanStore, CanPut, RingFits, SlotNotable, Ready, ReadyFifo, ReadyBuffer}
@@ -44,6 +43,7 @@ use Rattle.receiving.specs.Priority.{slotPlace, slotNoted, dropNoted}
 use Rattle.receiving.specs.Receive.{Fate, stored, storedBuffer, lostTo, dropped, arrival, slotSays}
 use Rattle.receiving.specs.Receive.{intoFifo, intoBuffer, intoNothing, goesTo, receives}
 use Rattle.receiving.proofs.Lists.{legal-lists, index-small}
+use Rattle.receiving.proofs.Stores.{slot-within}
 
 same-outcome : {x y : Says Fate} {s t : State} {r q : Record} {l k : List ℕ} → x ≡ y → s ≡ t → r ≡ q → l ≡ k
     → settles x (world s r l) ≡ settles y (world t q k)
@@ -68,10 +68,7 @@ module _ (s : State) (fifo : ℕ) (a : Arrival) where
       room = fifo-roomy (s .regs) words (h .sound .legal) fifo
 
       within : (p : ℕ) → k .slot ≡ At p → p < fifoSize (s .regs) fifo
-      within p z =
-          kept-within (keeperOf (s .regs) fifo) (fifoRing s fifo) r
-          (record { ring = ring-ready words h .ring; flags = omega (arith, h .number) })
-          p (sym (ap (λ (x : Kept). x .slot) e) ∙ z)
+      within p z = slot-within s words fifo r (h .sound) (h .number) p (sym (ap (λ (x : Kept). x .slot) e) ∙ z)
 
       pub put-ready : (area : Area) → area ≡ fifoArea (s .regs) fifo → CanPut area (k .slot) a words
       put-ready area u =
