@@ -2,9 +2,9 @@
 use Prim.Native.Nat.{ℕ, _-_}
 use Rattle.frame.specs.Sizes.{elementWords}
 use Rattle.places.specs.declared.Area.{Area}
-use Rattle.registers.specs.Fields.{fifoWord, fifoCode, fifoSize, bufferCode, eventSize, txCount, txCode}
+use Rattle.registers.specs.Fields.{fifoSize, fifoCode, buffers, bufferCode, eventSize, txCount, txCode}
 use Rattle.registers.specs.declared.Registers.{Registers}
-use Rattle.layout.specs.Sections.{rxfcSection, rxbcSection, txefcSection, txbcSection}
+use Rattle.layout.specs.Sections.{fifoSection, bufferSection, eventSection, txSection}
 use Rattle.layout.specs.declared.sections.Section.{Section}
 
 abbrev pub areaIn : Section → ℕ → ℕ → Area
@@ -12,19 +12,17 @@ areaIn s count each = record { start = s .start; count = count; each = each }
 
 -- FIFO 0 or 1
 abbrev pub fifoArea : Registers → ℕ → Area
-fifoArea r fifo =
-    areaIn (rxfcSection (fifoWord r fifo) (fifoCode r fifo)) (fifoSize r fifo) (elementWords (fifoCode r fifo))
+fifoArea r fifo = areaIn (fifoSection r fifo) (fifoSize r fifo) (elementWords (fifoCode r fifo))
 
 abbrev pub bufferArea : Registers → Area
-bufferArea r =
-    areaIn (rxbcSection (r .rxbc .word) (r .buffers) (bufferCode r)) (r .buffers) (elementWords (bufferCode r))
+bufferArea r = areaIn (bufferSection r) (buffers r) (elementWords (bufferCode r))
 
 abbrev pub eventArea : Registers → Area
-eventArea r = areaIn (txefcSection (r .txefc .word)) (eventSize r) 2
+eventArea r = areaIn (eventSection r) (eventSize r) 2
 
 -- dedicated and shared
 abbrev pub txArea : Registers → Area
-txArea r = areaIn (txbcSection (r .txbc .word) (txCode r)) (txCount r) (elementWords (txCode r))
+txArea r = areaIn (txSection r) (txCount r) (elementWords (txCode r))
 
 -- the data words of an area's elements: all but the two of the header
 abbrev pub dataWords : Area → ℕ

@@ -22,34 +22,30 @@ fn area_in(s: Section, count: u32, each: u32) -> Area
 pub fn fifo_area(r: Registers, number: u32) -> Area
     ensures { λ a. ⌜ a ≡ fifoArea r number ⌝ }
 {
-    let w = r.fifo(number);
-    let code = r.fifo_code(number);
-    area_in(fifo(w, code), w.count(), element_words(code))
+    area_in(
+        fifo(r, number),
+        r.fifo(number).count(),
+        element_words(r.fifo_code(number)),
+    )
 }
 
 pub fn buffer_area(r: Registers) -> Area
     requires { ⌜ r .buffers ≤ 64 ⌝ }
     ensures { λ a. ⌜ a ≡ bufferArea r ⌝ }
 {
-    let code = r.rxesc.buffers();
-    area_in(
-        rx_buffers(r.rxbc, r.buffers, code),
-        r.buffers,
-        element_words(code),
-    )
+    area_in(rx_buffers(r), r.buffers, element_words(r.rxesc.buffers()))
 }
 
 pub fn event_area(r: Registers) -> Area
     ensures { λ a. ⌜ a ≡ eventArea r ⌝ }
 {
-    area_in(events(r.txefc), r.txefc.count(), Txefc::EACH)
+    area_in(events(r), r.txefc.count(), Txefc::EACH)
 }
 
 pub fn tx_area(r: Registers) -> Area
     ensures { λ a. ⌜ a ≡ txArea r ⌝ }
 {
-    let code = r.txesc.size();
-    area_in(tx_buffers(r.txbc, code), r.tx_count(), element_words(code))
+    area_in(tx_buffers(r), r.tx_count(), element_words(r.txesc.size()))
 }
 
 // The data words of an element: all but the two of its header.

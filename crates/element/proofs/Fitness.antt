@@ -1,4 +1,4 @@
--- Which frames fit the fields of an element: those that are not malformed, those read from an element, and either as sent.
+-- Which frames fit the fields of an element: those not malformed, those read from an element, and either as sent.
 -- Assumes nothing.
 use Prim.Native.Nat.{ℕ, _<_}
 use mathlib.Core.Path.{_≡_, sym, subst}
@@ -28,6 +28,7 @@ pub read-fits : (first second : ℕ) → InFields (frameIn first second)
 unfolding frameIn
 read-fits first second = record { id = id-in-kind (isSet first 30) first; dlc = omega arith }
 
-pub sent-fits : (f g : Frame) (fd switching passive : Bool) → g ≡ asSent f fd switching passive → InFields f → InFields g
+pub sent-fits : (f g : Frame) (fd switching passive : Bool) → g ≡ asSent f fd switching passive → InFields f
+    → InFields g
 unfolding asSent
 sent-fits f g fd switching passive e h = subst InFields (sym e) (record { id = h .id; dlc = h .dlc })

@@ -41,7 +41,9 @@ module _ (mem other : List ℕ) (at to n : ℕ) (own : part at (2 + n) mem ≡ p
 
   byte-alike : (i : ℕ) → i < 4 * n → byteIn mem (at + 2) i ≡ byteIn other (to + 2) i
   unfolding byteIn
-  byte-alike i l = ap (λ (w : ℕ). byteOf w (i % 4)) (word-alike (2 + i / 4) (at + 2 + i / 4) (to + 2 + i / 4) (omega arith) (omega arith) (omega arith))
+  byte-alike i l =
+      ap (λ (w : ℕ). byteOf w (i % 4))
+      (word-alike (2 + i / 4) (at + 2 + i / 4) (to + 2 + i / 4) (omega arith) (omega arith) (omega arith))
 
   first-alike : getD mem at 0 ≡ getD other to 0
   first-alike = word-alike 0 at to (omega arith) (omega arith) (omega arith)
@@ -52,13 +54,16 @@ module _ (mem other : List ℕ) (at to n : ℕ) (own : part at (2 + n) mem ≡ p
   read-alike : readBytes mem at n ≡ readBytes other to n
   unfolding readBytes readCount
   read-alike =
-      run-same (byteIn mem (at + 2)) (byteIn other (to + 2)) 0 (min (lengthOf (headed frameIn mem at)) (4 * n)) (λ i l. byte-alike i (omega arith))
-      ∙ ap (λ (k : ℕ). run (byteIn other (to + 2)) 0 (min k (4 * n))) (ap lengthOf (ap₂ frameIn first-alike second-alike))
+      run-same (byteIn mem (at + 2)) (byteIn other (to + 2)) 0 (min (lengthOf (headed frameIn mem at)) (4 * n))
+      (λ i l. byte-alike i (omega arith))
+      ∙ ap (λ (k : ℕ). run (byteIn other (to + 2)) 0 (min k (4 * n)))
+      (ap lengthOf (ap₂ frameIn first-alike second-alike))
 
   sent-from-alike : (count : ℕ) → sentFrom mem at n count ≡ sentFrom other to n count
   unfolding sentFrom sentByte
   sent-from-alike count =
-      run-same (sentByte mem at n) (sentByte other to n) 0 count (λ i l. sent-alike (byteIn mem (at + 2) i) (byteIn other (to + 2) i) n i (byte-alike i))
+      run-same (sentByte mem at n) (sentByte other to n) 0 count
+      (λ i l. sent-alike (byteIn mem (at + 2) i) (byteIn other (to + 2) i) n i (byte-alike i))
 
 pub own-words : OwnWords
 own-words mem other at to n own = record {

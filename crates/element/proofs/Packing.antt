@@ -41,7 +41,8 @@ module _ (xtd : Bool) (id : ℕ) where
 
 pub ruleset ids = (id-long, id-short, id-long-lt, id-short-lt, id-fits)
 
-pub first-word : (f : Frame) (esi xtd rtr id : ℕ) → esi ≡ pick (f .esi) 1 0 → xtd ≡ pick (f .xtd) 1 0 → rtr ≡ pick (f .rtr) 1 0
+pub first-word : (f : Frame) (esi xtd rtr id : ℕ) → esi ≡ pick (f .esi) 1 0 → xtd ≡ pick (f .xtd) 1 0
+    → rtr ≡ pick (f .rtr) 1 0
     → id ≡ idBits (f .xtd) (f .id) → esi * 2 ^ 31 + xtd * 2 ^ 30 + rtr * 2 ^ 29 + id ≡ word0 f
 unfolding word0
 first-word f esi xtd rtr id a b c d = rw (a, b, c, d)

@@ -12,7 +12,8 @@ use Rattle.element.specs.Bytes.{lengthOf, readCount, rxRead, readBytes, 
 use Rattle.element.specs.declared.RxHeader.{RxHeader}
 
 module _ (mem : List ℕ) (at n : ℕ) where
-  module _ (header : RxHeader) (len count : ℕ) (e : header ≡ headed rxHeaderIn mem at) (l : len ≡ lengthOf (header .frame)) (k : count ≡ min len (4 * n)) where
+  module _ (header : RxHeader) (len count : ℕ) (e : header ≡ headed rxHeaderIn mem at)
+      (l : len ≡ lengthOf (header .frame)) (k : count ≡ min len (4 * n)) where
     counted : count ≡ readCount mem at n
     unfolding readCount rxHeaderIn
     counted = rw (k, l, e)
@@ -21,12 +22,14 @@ module _ (mem : List ℕ) (at n : ℕ) where
     unfolding rxRead
     rx-read = rw (e, counted)
 
-    pub rx-bytes : (out last : List ℕ) → last ≡ splice out 0 (run (byteIn mem (at + 2)) 0 count) → last ≡ splice out 0 (readBytes mem at n)
+    pub rx-bytes : (out last : List ℕ) → last ≡ splice out 0 (run (byteIn mem (at + 2)) 0 count)
+        → last ≡ splice out 0 (readBytes mem at n)
     unfolding readBytes
     rx-bytes out last s = s ∙ rw counted
 
   module _ (i : ℕ) where
-    pub sent-held : (word b : ℕ) → word ≡ getD mem (at + 2 + i / 4) 0 → b ≡ byteOf word (i % 4) → i < 4 * n → b ≡ sentByte mem at n i
+    pub sent-held : (word b : ℕ) → word ≡ getD mem (at + 2 + i / 4) 0 → b ≡ byteOf word (i % 4) → i < 4 * n
+        → b ≡ sentByte mem at n i
     unfolding sentByte byteIn
     sent-held word b w e h = rw (e, w, lt-ltb _ _ h)
 

@@ -9,7 +9,7 @@ use lib.Dec.{ltb}
 use lib.ListN.{length, getD}
 use lib.Seq.{getD-append-add}
 use Rattle.words.specs.Choice.{pick}
-use Rattle.words.specs.Runs.{run, splice}
+use Rattle.words.specs.Runs.{run}
 use Rattle.words.specs.Bytes.{byteOf, wordOf, byteIn}
 use Rattle.words.proofs.Runs.{getD-run}
 use Rattle.words.proofs.Ranges.{splice-only}
@@ -21,7 +21,8 @@ use Rattle.element.specs.Word1.{rxWord1, txWord1, eventWord1}
 use Rattle.element.specs.Elements.{element, eventElement}
 use Rattle.element.specs.Headers.{frameIn, rxHeaderIn, txHeaderIn, eventHeaderIn, headed}
 use Rattle.element.specs.Bytes.{lengthOf, readCount, readBytes, sentByte, sentFrom}
-use Rattle.element.specs.Promises.{Holds, Placed, ElementStored, EventStored, AreBytes, BytesBack, RxReadsBack, TxReadsBack, EventReadsBack, SentAsHeld}
+use Rattle.element.specs.Promises.{Holds, Placed, ElementStored, EventStored, AreBytes, BytesBack, RxReadsBack}
+use Rattle.element.specs.Promises.{TxReadsBack, EventReadsBack, SentAsHeld}
 use Rattle.element.specs.declared.RxHeader.{RxHeader}
 use Rattle.element.specs.declared.TxHeader.{TxHeader}
 use Rattle.element.proofs.Storing.{element-length}
@@ -46,7 +47,8 @@ event-placed mem at marker f time h = placed mem at (eventElement marker f time)
 -- ---- reading
 
 -- a word that the memory holds
-held-word : (mem : List ℕ) (at : ℕ) (ws : List ℕ) → Holds mem at ws → (i : ℕ) → i < length ws → getD mem (at + i) 0 ≡ getD ws i 0
+held-word : (mem : List ℕ) (at : ℕ) (ws : List ℕ) → Holds mem at ws → (i : ℕ) → i < length ws
+    → getD mem (at + i) 0 ≡ getD ws i 0
 held-word mem at ws h i l = sym (getD-part at (length ws) mem i l) ∙ ap (λ (x : List ℕ). getD x i 0) h
 
 -- the bytes as sent, by the data that they are taken from
@@ -54,20 +56,24 @@ module _ (mem : List ℕ) (at n : ℕ) (d : List ℕ) (same : (i : ℕ) → i < 
   sent-by : (count : ℕ) → sentFrom mem at n count ≡ sentBytes (4 * n) d count
   unfolding sentFrom sentByte sentBytes
   sent-by count =
-      run-same (sentByte mem at n) (λ i. pick (ltb i (4 * n)) (getD d i 0) 0xCC) 0 count (λ i l. sent-alike (byteIn mem (at + 2) i) (getD d i 0) n i (same i))
+      run-same (sentByte mem at n) (λ i. pick (ltb i (4 * n)) (getD d i 0) 0xCC) 0 count
+      (λ i l. sent-alike (byteIn mem (at + 2) i) (getD d i 0) n i (same i))
 
 pub sent-as-held : SentAsHeld
 sent-as-held mem at n count =
     let d = run (byteIn mem (at + 2)) 0 (4 * n) in
-    sent-by mem at n d (λ i l. ap (byteIn mem (at + 2)) (omega arith) ∙ sym (getD-run (byteIn mem (at + 2)) 0 (4 * n) i l)) count
+    sent-by mem at n d
+    (λ i l. ap (byteIn mem (at + 2)) (omega arith) ∙ sym (getD-run (byteIn mem (at + 2)) 0 (4 * n) i l)) count
 
-module _ (mem : List ℕ) (at first second : ℕ) (d : List ℕ) (n : ℕ) (holds : Holds mem at (element first second d n)) where
+module _ (mem : List ℕ) (at first second : ℕ) (d : List ℕ) (n : ℕ)
+    (holds : Holds mem at (element first second d n)) where
   -- the header and the data of an element that the memory holds
   pub headed-back : {A : Type 0} (header : ℕ → ℕ → A) → headed header mem at ≡ header first second
   unfolding element
   headed-back header =
       ap₂ header
-      (ap (λ (k : ℕ). getD mem k 0) (sym (add-zero at)) ∙ held-word mem at (element first second d n) holds 0 (omega (arith, element-length first second d n)))
+      (ap (λ (k : ℕ). getD mem k 0) (sym (add-zero at))
+      ∙ held-word mem at (element first second d n) holds 0 (omega (arith, element-length first second d n)))
       (held-word mem at (element first second d n) holds 1 (omega (arith, element-length first second d n)))
 
   data-back : (k : ℕ) → k < n → getD mem (at + 2 + k) 0 ≡ wordOf d k
@@ -122,4 +128,5 @@ tx-back mem at n x d holds k w small =
 pub event-back : EventReadsBack
 unfolding element run
 event-back mem at marker f time holds k h t =
-    headed-back mem at (word0 f) (eventWord1 marker f time) [] 0 holds eventHeaderIn ∙ event-header-back f h marker time k t
+    headed-back mem at (word0 f) (eventWord1 marker f time) [] 0 holds eventHeaderIn
+    ∙ event-header-back f h marker time k t

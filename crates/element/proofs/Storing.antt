@@ -28,7 +28,8 @@ two-stored l at a b ws h =
     ∙ splice-cons l at a (b ∷ ws) (omega arith)
 
 pub element-stored : (l last : List ℕ) (at first second : ℕ) (d : List ℕ) (n : ℕ) → HasElement l at n
-    → last ≡ splice (set (set l at first) (at + 1) second) (at + 2) (run (wordOf d) 0 n) → last ≡ splice l at (element first second d n)
+    → last ≡ splice (set (set l at first) (at + 1) second) (at + 2) (run (wordOf d) 0 n)
+    → last ≡ splice l at (element first second d n)
 unfolding element
 element-stored l last at first second d n h s =
     s ∙ two-stored l at first second (run (wordOf d) 0 n) (omega (arith, length-run (wordOf d) 0 n, h .inside))
@@ -38,7 +39,8 @@ pub element-by : (l last : List ℕ) (at : ℕ) (a b first second : ℕ) (d : Li
     → last ≡ splice l at (element a b d n) → last ≡ splice l at (element first second d n)
 element-by l last at a b first second d n p q s = s ∙ ap₂ (λ (x y : ℕ). splice l at (element x y d n)) p q
 
-pub event-stored : (l : List ℕ) (at a b marker : ℕ) (f : Frame) (time : ℕ) → at + 2 ≤ length l → a ≡ word0 f → b ≡ eventWord1 marker f time
+pub event-stored : (l : List ℕ) (at a b marker : ℕ) (f : Frame) (time : ℕ) → at + 2 ≤ length l → a ≡ word0 f
+    → b ≡ eventWord1 marker f time
     → set (set l at a) (at + 1) b ≡ splice l at (eventElement marker f time)
 event-stored l at a b marker f time h p q =
     splice-none (set (set l at a) (at + 1) b) (at + 2)

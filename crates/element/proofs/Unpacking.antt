@@ -35,18 +35,30 @@ pub ruleset ids-in = (id-in-long, id-in-long-kind, id-in-short, id-in-short-kind
 -- ---- the headers
 
 module _ (first second : ℕ) where
-  pub frame-in : (id : ℕ) → id ≡ idIn (isSet first 30) first
-      → record { id = id; xtd = isSet first 30; rtr = isSet first 29; fdf = isSet second 21; brs = isSet second 20; esi = isSet first 31; dlc = bits 19 16 second }
-      ≡ frameIn first second
+  -- the frame that the code makes, with an identifier that it read
+  abbrev readFrame : ℕ → Frame
+  readFrame id = record {
+    id = id;
+    xtd = isSet first 30;
+    rtr = isSet first 29;
+    fdf = isSet second 21;
+    brs = isSet second 20;
+    esi = isSet first 31;
+    dlc = bits 19 16 second;
+  }
+
+  pub frame-in : (id : ℕ) → id ≡ idIn (isSet first 30) first → readFrame id ≡ frameIn first second
   unfolding frameIn
   frame-in id e = rw e
 
   module _ (f : Frame) (e : f ≡ frameIn first second) (time marker : ℕ) where
-    pub rx-in : time ≡ bits 15 0 second → record { frame = f; anmf = isSet second 31; index = bits 30 24 second; time = time } ≡ rxHeaderIn first second
+    pub rx-in : time ≡ bits 15 0 second
+        → record { frame = f; anmf = isSet second 31; index = bits 30 24 second; time = time } ≡ rxHeaderIn first second
     unfolding rxHeaderIn
     rx-in a = rw (e, a)
 
-    pub tx-in : marker ≡ markerIn second → record { frame = f; marker = marker; wish = isSet second 23 } ≡ txHeaderIn first second
+    pub tx-in : marker ≡ markerIn second
+        → record { frame = f; marker = marker; wish = isSet second 23 } ≡ txHeaderIn first second
     unfolding txHeaderIn
     tx-in a = rw (e, a)
 

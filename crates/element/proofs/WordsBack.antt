@@ -29,20 +29,30 @@ module _ (f : Frame) (h : InFields f) where
   -- word 0 by its four fields
   id-back : (x : Bool) → f .xtd ≡ x → idIn x (word0 f) ≡ f .id
   unfolding word0
-  id-back true e = omega (arith, one-le (f .esi), one-le (f .xtd), one-le (f .rtr), id-lt (f .xtd) (f .id) (h .id), id-long (f .xtd) (f .id) e)
-  id-back false e = omega (arith, one-le (f .esi), one-le (f .xtd), one-le (f .rtr), id-lt (f .xtd) (f .id) (h .id), id-short (f .xtd) (f .id) e)
+  id-back true e =
+      let s = id-long (f .xtd) (f .id) e in
+      omega (arith, one-le (f .esi), one-le (f .xtd), one-le (f .rtr), id-lt (f .xtd) (f .id) (h .id))
+  id-back false e =
+      let s = id-short (f .xtd) (f .id) e in
+      omega (arith, one-le (f .esi), one-le (f .xtd), one-le (f .rtr), id-lt (f .xtd) (f .id) (h .id))
 
   esi-back : isSet (word0 f) 31 ≡ f .esi
   unfolding word0
-  esi-back = set-is (word0 f) 31 (f .esi) (omega (arith, one-le (f .esi), one-le (f .xtd), one-le (f .rtr), id-lt (f .xtd) (f .id) (h .id)))
+  esi-back =
+      set-is (word0 f) 31 (f .esi)
+      (omega (arith, one-le (f .esi), one-le (f .xtd), one-le (f .rtr), id-lt (f .xtd) (f .id) (h .id)))
 
   xtd-back : isSet (word0 f) 30 ≡ f .xtd
   unfolding word0
-  xtd-back = set-is (word0 f) 30 (f .xtd) (omega (arith, one-le (f .esi), one-le (f .xtd), one-le (f .rtr), id-lt (f .xtd) (f .id) (h .id)))
+  xtd-back =
+      set-is (word0 f) 30 (f .xtd)
+      (omega (arith, one-le (f .esi), one-le (f .xtd), one-le (f .rtr), id-lt (f .xtd) (f .id) (h .id)))
 
   rtr-back : isSet (word0 f) 29 ≡ f .rtr
   unfolding word0
-  rtr-back = set-is (word0 f) 29 (f .rtr) (omega (arith, one-le (f .esi), one-le (f .xtd), one-le (f .rtr), id-lt (f .xtd) (f .id) (h .id)))
+  rtr-back =
+      set-is (word0 f) 29 (f .rtr)
+      (omega (arith, one-le (f .esi), one-le (f .xtd), one-le (f .rtr), id-lt (f .xtd) (f .id) (h .id)))
 
   form-lt : formBits f < 2 ^ 22
   unfolding formBits

@@ -105,4 +105,5 @@ pub record ReadsAlike (mem other : List ℕ) (at to n : ℕ) : Type 0 where
   pub sent : (count : ℕ) → sentFrom mem at n count ≡ sentFrom other to n count
 
 abbrev pub OwnWords : Type 0
-OwnWords = (mem other : List ℕ) (at to n : ℕ) → part at (2 + n) mem ≡ part to (2 + n) other → ReadsAlike mem other at to n
+OwnWords =
+    (mem other : List ℕ) (at to n : ℕ) → part at (2 + n) mem ≡ part to (2 + n) other → ReadsAlike mem other at to n

@@ -1,5 +1,4 @@
-// Elements in the lent memory: stored, read, and their bytes as sent. An element is named by its first word and its n
-// data words.
+// Elements in the lent memory, each named by its first word and its n data words: stored, read, their bytes as sent.
 use crate::Arrival;
 use crate::EventHeader;
 use crate::RxRead;
@@ -21,7 +20,8 @@ ghost use Rattle.element.specs.Bytes.{rxRead, readBytes, sentByte, sentF
 // Stores an element by its first two words and its data.
 fn store(mem: &mut [u32], at: WordAddress, n: usize, first: u32, second: u32, bytes: &[u8])
     requires { ⌜ HasElement (now mem) (at .0) n ⌝ }
-    ensures { λ _. ⌜ now (mem .exit) ≡ splice (now (mem .entry)) (at .0) (element first second (now (bytes .entry)) n) ⌝ }
+    ensures { λ _. ⌜ now (mem .exit)
+        ≡ splice (now (mem .entry)) (at .0) (element first second (now (bytes .entry)) n) ⌝ }
 {
     let start = at.0 as usize;
     mem[start] = first;

@@ -3,6 +3,9 @@ pub mod Unfitness
 pub mod Sounds
 pub mod Parts
 pub mod Calls
+pub mod Memories
+pub mod Holdings
+pub mod Buffers
 pub mod Alike
 pub mod Replies
 pub mod Keeps

@@ -7,7 +7,8 @@ use Rattle.words.specs.Choice.{pick}
 use Rattle.filter.specs.Destination.{Goes, toFifo, toBuffer, discarded, reason, meaning}
 use Rattle.filter.specs.Promises.{OneAnswer}
 use Rattle.filter.specs.declared.Reason.{Reason}
-use Rattle.filter.specs.declared.Reason.the-variants.{Remote, Reject, NoMatch, PriorityOnly, Debug, Misfiled, Locked}
+use Rattle.filter.specs.declared.Reason.the-variants.{Remote, Reject, NoMatch, PriorityOnly, Debug, Misfiled}
+use Rattle.filter.specs.declared.Reason.the-variants.{Locked}
 use Rattle.filter.specs.declared.Destination.{Destination}
 use Rattle.filter.specs.declared.Destination.the-variants.{Fifo, Buffer, Discarded}
 

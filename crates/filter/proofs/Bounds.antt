@@ -16,7 +16,8 @@ use Rattle.frame.specs.declared.Frame.{Frame}
 use Rattle.frame.specs.declared.Matched.{Matched}
 use Rattle.frame.specs.declared.Matched.the-variants.{Nothing, Filter}
 use Rattle.filter.specs.Search.{listOf, filterAt, firstMatch, FewFilters}
-use Rattle.filter.specs.Destination.{Goes, toFifo, toBuffer, discarded, meaning, remoteOut, nonMatching, unmatched, rxBuffer, byAction, bySearch, destination}
+use Rattle.filter.specs.Destination.{Goes, toFifo, toBuffer, discarded, meaning, remoteOut, nonMatching}
+use Rattle.filter.specs.Destination.{unmatched, rxBuffer, byAction, bySearch, destination}
 use Rattle.filter.specs.Promises.{IndexBelow, Within, DestinationIsWithin}
 use Rattle.filter.specs.declared.Reason.{Reason}
 use Rattle.filter.specs.declared.Destination.{Destination}
@@ -30,7 +31,8 @@ this-index i h j e = let same : i ≡ j = cc in omega arith
 
 module _ (g : Registers) (newdata : ℕ) where
   -- both ways of a choice, each under what the test says
-  chosen : (t : Bool) (a b : Goes) → (t ≡ true → Within g newdata a) → (t ≡ false → Within g newdata b) → Within g newdata (pick t a b)
+  chosen : (t : Bool) (a b : Goes) → (t ≡ true → Within g newdata a) → (t ≡ false → Within g newdata b)
+      → Within g newdata (pick t a b)
   chosen true a b p q = p refl
   chosen false a b p q = q refl
 
@@ -38,7 +40,8 @@ module _ (g : Registers) (newdata : ℕ) where
   unfolding unmatched
   unmatched-within anf =
       chosen (eqb anf 0) (toFifo 0 false Nothing) _ (λ e. (omega arith, no-index))
-      (λ e. chosen (eqb anf 1) (toFifo 1 false Nothing) (discarded 2 Nothing) (λ e. (omega arith, no-index)) (λ e. (omega arith, no-index)))
+      (λ e. chosen (eqb anf 1) (toFifo 1 false Nothing) (discarded 2 Nothing) (λ e. (omega arith, no-index))
+      (λ e. (omega arith, no-index)))
 
   module _ (i : ℕ) (h : i < 128) where
     fifo : (k : ℕ) (priority : Bool) → k ≤ 1 → Within g newdata (toFifo k priority (Filter i))
@@ -64,7 +67,7 @@ module _ (g : Registers) (newdata : ℕ) where
         (λ e. chosen (eqb action 3) (discarded 1 (Filter i)) _ (λ e. out 1 (omega arith))
         (λ e. chosen (eqb action 4) (discarded 3 (Filter i)) _ (λ e. out 3 (omega arith))
         (λ e. chosen (eqb action 5) (toFifo 0 true (Filter i)) _ (λ e. fifo 0 true (omega arith))
-        (λ e. chosen (eqb action 6) (toFifo 1 true (Filter i)) (rxBuffer id2 (g .buffers) newdata i) (λ e. fifo 1 true (omega arith))
+        (λ e. chosen (eqb action 6) (toFifo 1 true (Filter i)) _ (λ e. fifo 1 true (omega arith))
         (λ e. buffer-within id2))))))
 
 -- a list has at most 128 elements
@@ -78,8 +81,10 @@ destination-is-within g mem f newdata few =
     let l = listOf g (f .xtd) in
     let i = firstMatch mem l (f .id) in
     chosen g newdata (f .rtr && remoteOut g (f .xtd)) (discarded 0 Nothing) _ (λ e. (omega arith, no-index))
-    (λ e. chosen g newdata (ltb i (l .count)) (byAction (filterAt mem l i .action) (filterAt mem l i .id2) (g .buffers) newdata i) (unmatched (nonMatching g (f .xtd)))
-    (λ found. action-within g newdata i (omega (arith, ltb-true i (l .count) found, list-most g (f .xtd) few)) (filterAt mem l i .action) (filterAt mem l i .id2))
+    (λ e. chosen g newdata (ltb i (l .count)) _ _
+    (λ found.
+    let h : i < 128 = omega (arith, ltb-true i (l .count) found, list-most g (f .xtd) few) in
+    action-within g newdata i h (filterAt mem l i .action) (filterAt mem l i .id2))
     (λ none. unmatched-within g newdata (nonMatching g (f .xtd))))
 
 -- ---- of an answer of the code, by its case

@@ -28,7 +28,8 @@ module _ (mem : List ℕ) (l : FilterList) (id : ℕ) where
 
   pub first-searched : (i : ℕ) → FirstIs mem l id i → firstMatch mem l id ≡ i
   unfolding firstMatch
-  first-searched i s = least-is test 0 (l .count) i (omega arith) (omega (arith, s .within)) (s .here) (λ j a b. s .before j b)
+  first-searched i s =
+      least-is test 0 (l .count) i (omega arith) (omega (arith, s .within)) (s .here) (λ j a b. s .before j b)
 
   pub search-none : l .count ≤ firstMatch mem l id → NoneMatches mem l id
   unfolding firstMatch

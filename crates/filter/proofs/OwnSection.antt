@@ -39,7 +39,8 @@ module _ (l : FilterList) (m n : List ℕ) (same : SameIn (listRange l) m n) whe
       go true e =
           let words : listWords l ≡ 2 * l .count = pick-first (2 * l .count) (l .count) e in
           sym (element-long m l i (long m i) e refl)
-          ∙ ap₂ element29 (word (l .start .0 + 2 * i) (omega arith) (omega arith)) (word (l .start .0 + 2 * i + 1) (omega arith) (omega arith))
+          ∙ ap₂ element29 (word (l .start .0 + 2 * i) (omega arith) (omega arith))
+          (word (l .start .0 + 2 * i + 1) (omega arith) (omega arith))
           ∙ element-long n l i (long n i) e refl
       go false e =
           let words : listWords l ≡ l .count = pick-second (2 * l .count) (l .count) e in
@@ -63,8 +64,11 @@ module _ (l : FilterList) (m n : List ℕ) (same : SameIn (listRange l) m n) whe
       rest : Goes
       rest = unmatched (nonMatching g (l .xtd))
 
-      go : (b : Bool) → ltb i (l .count) ≡ b → pick (ltb i (l .count)) (acted (filterAt m l i)) rest ≡ pick (ltb i (l .count)) (acted (filterAt n l i)) rest
-      go true e = ap (λ (x : FilterElement). pick (ltb i (l .count)) (acted x) rest) (element-same i (ltb-true i (l .count) e))
+      go : (b : Bool) → ltb i (l .count) ≡ b
+          → pick (ltb i (l .count)) (acted (filterAt m l i)) rest
+          ≡ pick (ltb i (l .count)) (acted (filterAt n l i)) rest
+      go true e =
+          ap (λ (x : FilterElement). pick (ltb i (l .count)) (acted x) rest) (element-same i (ltb-true i (l .count) e))
       go false e = pick-second (acted (filterAt m l i)) rest e ∙ sym (pick-second (acted (filterAt n l i)) rest e)
 
 pub search-reads-its-list : SearchReadsItsList
@@ -75,4 +79,5 @@ unfolding destination
 destination-reads-its-list g m n f newdata same =
     let l = listOf g (f .xtd) in
     ap (pick (f .rtr && remoteOut g (f .xtd)) _)
-    (answer-same l m n same g newdata (firstMatch m l (f .id)) ∙ ap (bySearch g n l newdata) (search-same l m n same (f .id)))
+    (answer-same l m n same g newdata (firstMatch m l (f .id))
+    ∙ ap (bySearch g n l newdata) (search-same l m n same (f .id)))

@@ -48,7 +48,8 @@ module _ (xtd : Bool) (xidam : ℕ) (e : FilterElement) (id : ℕ) where
     unfolding matches
     match-buffer h = rw (ne-eqb (e .action) 0 (λ z. omega arith), eq-eqb (e .action) 7 h, s)
 
-    pub match-type : (r : Bool) → r ≡ byType (e .filtertype) xtd e x id → (e .action ≡ 0 → ⊥) → (e .action ≡ 7 → ⊥) → r ≡ matches xtd xidam e id
+    pub match-type : (r : Bool) → r ≡ byType (e .filtertype) xtd e x id → (e .action ≡ 0 → ⊥) → (e .action ≡ 7 → ⊥)
+        → r ≡ matches xtd xidam e id
     unfolding matches
     match-type r d h k = rw (ne-eqb (e .action) 0 h, ne-eqb (e .action) 7 k, ← s) d
 

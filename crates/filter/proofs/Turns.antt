@@ -23,7 +23,8 @@ use Rattle.filter.specs.declared.lists.FilterList.{FilterList}
 abbrev made : Bool → WordAddress → ℕ → ℕ → FilterList
 made xtd s n m = record { xtd = xtd; start = s; count = n; xidam = m }
 
-same-list : (xtd : Bool) {s t : WordAddress} {n k m j : ℕ} → s .0 ≡ t .0 → n ≡ k → m ≡ j → made xtd s n m ≡ made xtd t k j
+same-list : (xtd : Bool) {s t : WordAddress} {n k m j : ℕ} → s .0 ≡ t .0 → n ≡ k → m ≡ j
+    → made xtd s n m ≡ made xtd t k j
 same-list xtd p q r = cc (address p)
   where
     address : {s t : WordAddress} → s .0 ≡ t .0 → s ≡ t
@@ -38,7 +39,8 @@ module _ (g : Registers) (xtd : Bool) (s : WordAddress) (n m : ℕ) (masked : m 
 
 pub ruleset listings = (list-long, list-short)
 
-pub list-fits : (g : Registers) (words : ℕ) (xtd : Bool) (l : FilterList) → ListsFit g words → l ≡ listOf g xtd → Fits l words
+pub list-fits : (g : Registers) (words : ℕ) (xtd : Bool) (l : FilterList) → ListsFit g words → l ≡ listOf g xtd
+    → Fits l words
 list-fits g words xtd l fit listed = subst⁻¹ (λ (k : FilterList). Fits k words) listed (fit .lists xtd)
 
 -- both lists lie in the memory where each does
@@ -71,7 +73,8 @@ module _ (l : FilterList) (words i : ℕ) (fits : Fits l words) (within : i < l 
   only-word h = omega (arith, words-short h)
 
 module _ (mem : List ℕ) (l : FilterList) (i : ℕ) (e : FilterElement) where
-  pub element-long : l .xtd ≡ true → e ≡ element29 (getD mem (l .start .0 + 2 * i) 0) (getD mem (l .start .0 + 2 * i + 1) 0) → e ≡ filterAt mem l i
+  pub element-long : l .xtd ≡ true
+      → e ≡ element29 (getD mem (l .start .0 + 2 * i) 0) (getD mem (l .start .0 + 2 * i + 1) 0) → e ≡ filterAt mem l i
   unfolding filterAt
   element-long h d = rw h d
 
@@ -81,7 +84,8 @@ module _ (mem : List ℕ) (l : FilterList) (i : ℕ) (e : FilterElement) where
 
 pub ruleset elements = (first-word, second-word, only-word, element-long, element-short)
 
-pub matched-at : (mem : List ℕ) (l : FilterList) (id i : ℕ) (e : FilterElement) (r : Bool) → e ≡ filterAt mem l i → r ≡ matches (l .xtd) (l .xidam) e id → r ≡ matchesAt mem l id i
+pub matched-at : (mem : List ℕ) (l : FilterList) (id i : ℕ) (e : FilterElement) (r : Bool) → e ≡ filterAt mem l i
+    → r ≡ matches (l .xtd) (l .xidam) e id → r ≡ matchesAt mem l id i
 matched-at mem l id i e r p q = q ∙ ap (λ (x : FilterElement). matches (l .xtd) (l .xidam) x id) p
 
 -- ---- the search: what it looks for is the lowest of the elements that are left

@@ -14,7 +14,8 @@ use Rattle.registers.specs.declared.Registers.{Registers}
 use Rattle.frame.specs.declared.Frame.{Frame}
 use Rattle.frame.specs.declared.Matched.the-variants.{Nothing, Filter}
 use Rattle.filter.specs.Search.{listOf, filterAt, firstMatch}
-use Rattle.filter.specs.Destination.{Goes, toFifo, toBuffer, discarded, remoteOut, nonMatching, unmatched, rxBuffer, byAction, bySearch, destination}
+use Rattle.filter.specs.Destination.{Goes, toFifo, toBuffer, discarded, remoteOut, nonMatching, unmatched}
+use Rattle.filter.specs.Destination.{rxBuffer, byAction, bySearch, destination}
 use Rattle.filter.specs.declared.filters.FilterElement.{FilterElement}
 use Rattle.filter.specs.declared.lists.FilterList.{FilterList}
 
@@ -94,16 +95,26 @@ module _ (action id2 buffers newdata i : ℕ) where
   unfolding byAction
   act-6 h = rw h
 
-  pub act-7 : (action ≡ 1 → ⊥) → (action ≡ 2 → ⊥) → (action ≡ 3 → ⊥) → (action ≡ 4 → ⊥) → (action ≡ 5 → ⊥) → (action ≡ 6 → ⊥)
+  pub act-7 : (action ≡ 1 → ⊥) → (action ≡ 2 → ⊥) → (action ≡ 3 → ⊥) → (action ≡ 4 → ⊥) → (action ≡ 5 → ⊥)
+      → (action ≡ 6 → ⊥)
       → (r : Goes) → r ≡ rxBuffer id2 buffers newdata i → r ≡ byAction action id2 buffers newdata i
   unfolding byAction
-  act-7 a b c d e f r h = rw (ne-eqb action 1 a, ne-eqb action 2 b, ne-eqb action 3 c, ne-eqb action 4 d, ne-eqb action 5 e, ne-eqb action 6 f) h
+  act-7 a b c d e f r h =
+      rw (
+        ne-eqb action 1 a,
+        ne-eqb action 2 b,
+        ne-eqb action 3 c,
+        ne-eqb action 4 d,
+        ne-eqb action 5 e,
+        ne-eqb action 6 f,
+      ) h
 
 pub ruleset actions = (act-1, act-2, act-3, act-4, act-5, act-6, act-7)
 
 -- the whole
 module _ (g : Registers) (mem : List ℕ) (f : Frame) (newdata : ℕ) where
-  pub goes-out : (o : Bool) → o ≡ remoteOut g (f .xtd) → (f .rtr && o) ≡ true → discarded 0 Nothing ≡ destination g mem f newdata
+  pub goes-out : (o : Bool) → o ≡ remoteOut g (f .xtd) → (f .rtr && o) ≡ true
+      → discarded 0 Nothing ≡ destination g mem f newdata
   unfolding destination
   goes-out o d h = sym (pick-first _ _ (ap (λ (b : Bool). f .rtr && b) (sym d) ∙ h))
 
@@ -112,11 +123,13 @@ module _ (g : Registers) (mem : List ℕ) (f : Frame) (newdata : ℕ) where
     searched : bySearch g mem l newdata i ≡ destination g mem f newdata
     unfolding destination
     searched =
-        let same : firstMatch mem l (f .id) ≡ firstMatch mem (listOf g (f .xtd)) (f .id) = ap (λ (k : FilterList). firstMatch mem k (f .id)) listed in
+        let same : firstMatch mem l (f .id) ≡ firstMatch mem (listOf g (f .xtd)) (f .id) =
+        ap (λ (k : FilterList). firstMatch mem k (f .id)) listed in
         ap₂ (λ (k : FilterList) (j : ℕ). bySearch g mem k newdata j) listed (found ∙ same)
         ∙ sym (pick-second _ _ (ap (λ (b : Bool). f .rtr && b) (sym d) ∙ stays))
 
-    pub goes-by-match : (e : FilterElement) (r : Goes) → i < l .count → e ≡ filterAt mem l i → r ≡ byAction (e .action) (e .id2) (g .buffers) newdata i
+    pub goes-by-match : (e : FilterElement) (r : Goes) → i < l .count → e ≡ filterAt mem l i
+        → r ≡ byAction (e .action) (e .id2) (g .buffers) newdata i
         → r ≡ destination g mem f newdata
     unfolding bySearch
     goes-by-match e r h p q =
@@ -125,7 +138,8 @@ module _ (g : Registers) (mem : List ℕ) (f : Frame) (newdata : ℕ) where
         ∙ sym (pick-first _ _ (lt-ltb i (l .count) h))
         ∙ searched
 
-    pub goes-unmatched : (anf : ℕ) (r : Goes) → l .count ≤ i → anf ≡ nonMatching g (f .xtd) → r ≡ unmatched anf → r ≡ destination g mem f newdata
+    pub goes-unmatched : (anf : ℕ) (r : Goes) → l .count ≤ i → anf ≡ nonMatching g (f .xtd) → r ≡ unmatched anf
+        → r ≡ destination g mem f newdata
     unfolding bySearch
     goes-unmatched anf r h p q =
         q

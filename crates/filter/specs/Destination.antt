@@ -6,7 +6,7 @@ use lib.Dec.{eqb, ltb, leb}
 use Rattle.words.specs.Choice.{pick}
 use Rattle.words.specs.Fields.{bits}
 use Rattle.words.specs.Bits.{isSet}
-use Rattle.registers.specs.Fields.{anfs, anfe, rrfs, rrfe}
+use Rattle.registers.specs.Fields.{buffers, anfs, anfe, rrfs, rrfe}
 use Rattle.registers.specs.declared.Registers.{Registers}
 use Rattle.frame.specs.declared.Frame.{Frame}
 use Rattle.frame.specs.declared.Matched.{Matched}
@@ -14,11 +14,12 @@ use Rattle.frame.specs.declared.Matched.the-variants.{Nothing, Filter}
 use Rattle.filter.specs.Search.{listOf, filterAt, firstMatch}
 use Rattle.filter.specs.declared.lists.FilterList.{FilterList}
 use Rattle.filter.specs.declared.Reason.{Reason}
-use Rattle.filter.specs.declared.Reason.the-variants.{Remote, Reject, NoMatch, PriorityOnly, Debug, Misfiled, Locked}
+use Rattle.filter.specs.declared.Reason.the-variants.{Remote, Reject, NoMatch, PriorityOnly, Debug, Misfiled}
+use Rattle.filter.specs.declared.Reason.the-variants.{Locked}
 use Rattle.filter.specs.declared.Destination.{Destination}
 use Rattle.filter.specs.declared.Destination.the-variants.{Fifo, Buffer, Discarded}
 
--- where a frame goes, with the index of the element that matched, if one did. FIFOs and buffers have the paper's numbers, reasons those below
+-- where a frame goes, with the index of the element that matched, if one did; a reason has the number that is below
 pub data Goes : Type 0 where
   -- to FIFO 0 or 1; whether with priority
   toFifo : ℕ → Bool → Matched → Goes
@@ -47,7 +48,7 @@ meaning (Discarded why m) = discarded (reason why) m
 abbrev pub remoteOut : Registers → Bool → Bool
 remoteOut g xtd = eqb (pick xtd (rrfe g) (rrfs g)) 1
 
--- 2: the field for frames that no element matches: ANFS, or ANFE of 29 bits. 0 and 1 name a FIFO, and the others drop the frame
+-- 2: the field for frames that no element matches, ANFS, or ANFE of 29 bits: 0 and 1 name a FIFO, the others discard
 abbrev pub nonMatching : Registers → Bool → ℕ
 nonMatching g xtd = pick xtd (anfe g) (anfs g)
 
@@ -57,31 +58,30 @@ unmatched anf =
     (pick (eqb anf 1) (toFifo 1 false Nothing)
     (discarded (reason NoMatch) Nothing))
 
--- 4, action 7: ID2 bits 10:9 not 0 means debug, and bits 5:0 name the buffer. One past the count is misfiled.
--- 5: one whose new-data bit is set is locked
+-- 4, action 7: ID2 bits 10:9 not 0 means debug, bits 5:0 name the buffer, past the count misfiled. 5: new data locks it
 unfoldable pub rxBuffer : ℕ → ℕ → ℕ → ℕ → Goes
-rxBuffer id2 buffers newdata i =
+rxBuffer id2 count newdata i =
     pick (not (eqb (bits 10 9 id2) 0)) (discarded (reason Debug) (Filter i))
-    (pick (leb buffers (bits 5 0 id2)) (discarded (reason Misfiled) (Filter i))
+    (pick (leb count (bits 5 0 id2)) (discarded (reason Misfiled) (Filter i))
     (pick (isSet newdata (bits 5 0 id2)) (discarded (reason Locked) (Filter i))
     (toBuffer (bits 5 0 id2) i)))
 
--- 4: what the action of the element that matched does. An element of action 0 never matches, so what is left for the last case is 7
+-- 4: what the action of the element that matched does. One of action 0 never matches, so the last case is action 7
 unfoldable pub byAction : ℕ → ℕ → ℕ → ℕ → ℕ → Goes
-byAction action id2 buffers newdata i =
+byAction action id2 count newdata i =
     pick (eqb action 1) (toFifo 0 false (Filter i))
     (pick (eqb action 2) (toFifo 1 false (Filter i))
     (pick (eqb action 3) (discarded (reason Reject) (Filter i))
     (pick (eqb action 4) (discarded (reason PriorityOnly) (Filter i))
     (pick (eqb action 5) (toFifo 0 true (Filter i))
     (pick (eqb action 6) (toFifo 1 true (Filter i))
-    (rxBuffer id2 buffers newdata i))))))
+    (rxBuffer id2 count newdata i))))))
 
 -- by what the search in a list answers
 unfoldable pub bySearch : Registers → List ℕ → FilterList → ℕ → ℕ → Goes
 bySearch g mem l newdata i =
     pick (ltb i (l .count))
-    (byAction (filterAt mem l i .action) (filterAt mem l i .id2) (g .buffers) newdata i)
+    (byAction (filterAt mem l i .action) (filterAt mem l i .id2) (buffers g) newdata i)
     (unmatched (nonMatching g (l .xtd)))
 
 -- 1 remote frames go out first; 2 the list of the frame's kind is searched; 3 to 5 the first match decides

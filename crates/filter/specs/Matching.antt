@@ -22,7 +22,7 @@ eitherOf e x = eqb x (e .id1) || eqb x (e .id2)
 abbrev pub atSetBits : FilterElement → ℕ → Bool
 atSetBits e x = eqb (bitAnd x (e .id2)) (bitAnd (e .id1) (e .id2))
 
--- by type, with x the identifier seen: 0 range; 1 either of two; 2 equal at the bits set; 3 off for 11 bits, and for 29 a range without XIDAM
+-- x is seen: 0 range; 1 either of two; 2 equal at the bits set; 3 off for 11 bits, and for 29 a range without XIDAM
 unfoldable pub byType : ℕ → Bool → FilterElement → ℕ → ℕ → Bool
 byType t xtd e x id =
     pick (eqb t 0) (inRange e x)

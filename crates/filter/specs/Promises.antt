@@ -7,16 +7,19 @@ use mathlib.Core.Logic.{_↔_, _⊎_}
 use Rattle.words.specs.Fields.{bits}
 use Rattle.words.specs.Bits.{bit}
 use Rattle.words.specs.Ranges.{SameIn}
+use Rattle.registers.specs.Fields.{buffers}
 use Rattle.registers.specs.declared.Registers.{Registers}
 use Rattle.frame.specs.declared.Frame.{Frame}
 use Rattle.frame.specs.declared.Matched.{Matched}
 use Rattle.frame.specs.declared.Matched.the-variants.{Nothing, Filter}
 use Rattle.filter.specs.Matching.{seen, matches}
 use Rattle.filter.specs.Search.{listOf, listRange, filterAt, matchesAt, firstMatch, FewFilters}
-use Rattle.filter.specs.Destination.{Goes, toFifo, toBuffer, discarded, reason, meaning, remoteOut, nonMatching, destination}
+use Rattle.filter.specs.Destination.{Goes, toFifo, toBuffer, discarded, reason, meaning, remoteOut, nonMatching}
+use Rattle.filter.specs.Destination.{destination}
 use Rattle.filter.specs.declared.filters.FilterElement.{FilterElement}
 use Rattle.filter.specs.declared.lists.FilterList.{FilterList}
-use Rattle.filter.specs.declared.Reason.the-variants.{Remote, Reject, NoMatch, PriorityOnly, Debug, Misfiled, Locked}
+use Rattle.filter.specs.declared.Reason.the-variants.{Remote, Reject, NoMatch, PriorityOnly, Debug, Misfiled}
+use Rattle.filter.specs.declared.Reason.the-variants.{Locked}
 use Rattle.filter.specs.declared.Destination.{Destination}
 
 -- ---- the search
@@ -60,7 +63,8 @@ pub record MatchTells (xtd : Bool) (xidam : ℕ) (e : FilterElement) (id : ℕ) 
       → (matches xtd xidam e id ≡ true) ↔ ((e .id1 ≤ id) × (id ≤ e .id2))
 
 abbrev pub MatchIsByType : Type 0
-MatchIsByType = (xtd : Bool) (xidam : ℕ) (e : FilterElement) (id : ℕ) → SeenTells xtd xidam id × MatchTells xtd xidam e id
+MatchIsByType =
+    (xtd : Bool) (xidam : ℕ) (e : FilterElement) (id : ℕ) → SeenTells xtd xidam id × MatchTells xtd xidam e id
 
 -- ---- where a frame goes
 
@@ -73,10 +77,13 @@ pub record ActionTells (g : Registers) (newdata : ℕ) (e : FilterElement) (i : 
   pub priority0 : e .action ≡ 5 → d ≡ toFifo 0 true (Filter i)
   pub priority1 : e .action ≡ 6 → d ≡ toFifo 1 true (Filter i)
   pub debug : e .action ≡ 7 → 0 < bits 10 9 (e .id2) → d ≡ discarded (reason Debug) (Filter i)
-  pub misfiled : e .action ≡ 7 → bits 10 9 (e .id2) ≡ 0 → g .buffers ≤ bits 5 0 (e .id2) → d ≡ discarded (reason Misfiled) (Filter i)
-  pub locked : e .action ≡ 7 → bits 10 9 (e .id2) ≡ 0 → bits 5 0 (e .id2) < g .buffers → bit newdata (bits 5 0 (e .id2)) ≡ 1
+  pub misfiled : e .action ≡ 7 → bits 10 9 (e .id2) ≡ 0 → buffers g ≤ bits 5 0 (e .id2)
+      → d ≡ discarded (reason Misfiled) (Filter i)
+  pub locked : e .action ≡ 7 → bits 10 9 (e .id2) ≡ 0 → bits 5 0 (e .id2) < buffers g
+      → bit newdata (bits 5 0 (e .id2)) ≡ 1
       → d ≡ discarded (reason Locked) (Filter i)
-  pub stored : e .action ≡ 7 → bits 10 9 (e .id2) ≡ 0 → bits 5 0 (e .id2) < g .buffers → bit newdata (bits 5 0 (e .id2)) ≡ 0
+  pub stored : e .action ≡ 7 → bits 10 9 (e .id2) ≡ 0 → bits 5 0 (e .id2) < buffers g
+      → bit newdata (bits 5 0 (e .id2)) ≡ 0
       → d ≡ toBuffer (bits 5 0 (e .id2)) i
 
 -- no element matches
@@ -116,12 +123,13 @@ IndexBelow n m = (i : ℕ) → m ≡ Filter i → i < n
 -- a FIFO is 0 or 1, a buffer is below the count and its new-data bit is clear, and an index is below 128
 abbrev pub Within : Registers → ℕ → Goes → Type 0
 Within g newdata (toFifo k priority m) = (k ≤ 1) × IndexBelow 128 m
-Within g newdata (toBuffer b i) = (b < g .buffers) × (bit newdata b ≡ 0) × (i < 128)
+Within g newdata (toBuffer b i) = (b < buffers g) × (bit newdata b ≡ 0) × (i < 128)
 Within g newdata (discarded why m) = (why ≤ 6) × IndexBelow 128 m
 
 abbrev pub DestinationIsWithin : Type 0
 DestinationIsWithin =
-    (g : Registers) (mem : List ℕ) (f : Frame) (newdata : ℕ) → FewFilters g → Within g newdata (destination g mem f newdata)
+    (g : Registers) (mem : List ℕ) (f : Frame) (newdata : ℕ) → FewFilters g
+    → Within g newdata (destination g mem f newdata)
 
 -- no two answers of the code mean the same, so no second answer meets the contract
 abbrev pub OneAnswer : Type 0

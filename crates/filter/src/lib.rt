@@ -13,8 +13,8 @@ ghost use Prim.Native.Nat.{_<_};
 ghost use lib.ListN.{length};
 ghost use Rattle.words.specs.Fields.{bits};
 ghost use Rattle.filter.specs.Needs.{ListsFit};
-ghost use Rattle.filter.specs.Destination.{reason, meaning, remoteOut, nonMatching, unmatched, rxBuffer, byAction};
-ghost use Rattle.filter.specs.Destination.{destination};
+ghost use Rattle.filter.specs.Destination.{reason, meaning, remoteOut, nonMatching, unmatched, rxBuffer};
+ghost use Rattle.filter.specs.Destination.{byAction, destination};
 
 // Why a frame is discarded.
 pub enum Reason {
@@ -91,7 +91,7 @@ fn buffer_of(id2: u32) -> u32
     id2 % 64
 }
 
-// Action 7: to the Rx buffer that ID2 names, unless its bits 10:9 ask for debug, no such buffer is there, or it holds new data.
+// Action 7: to the Rx buffer that ID2 names, unless it asks for debug, no such buffer is there, or it holds new data.
 fn rx_buffer(id2: u32, buffers: u32, newdata: u64, i: u32) -> Destination
     ensures { λ r. ⌜ meaning r ≡ rxBuffer id2 buffers newdata i ⌝ }
 {

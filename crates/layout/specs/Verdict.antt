@@ -4,16 +4,18 @@ use mathlib.Core.Bool.{Bool, false, not}
 use mathlib.Core.List.{List, [], _∷_}
 use lib.Dec.{eqb, ltb}
 use lib.ListN.{getD, replicate}
-use Rattle.words.specs.Fields.{bits}
 use Rattle.words.specs.Least.{leastFrom}
 use Rattle.words.specs.Rules.{Ruling, allowed, refused, refuseIf, first, settle}
-use Rattle.shape.specs.Refusals.{Refusal, names}
+use Rattle.shape.specs.Refusals.{Refusal, names, Refusals}
+use Rattle.registers.specs.Fields.{txCount}
 use Rattle.registers.specs.Given.{allNamed}
 use Rattle.registers.specs.declared.Registers.{Registers}
 use Rattle.layout.specs.Sections.{none, overMost, sectionsOf}
 use Rattle.layout.specs.declared.sections.Section.{Section}
+use Rattle.layout.specs.declared.check.Naming.{Naming}
 use Rattle.layout.specs.declared.check.Verdict.{Verdict}
-use Rattle.layout.specs.declared.check.Verdict.the-variants.{Accepted, WrongMemory, UnnamedBit, CountOver, TxOver, PastMemory, Overlap}
+use Rattle.layout.specs.declared.check.Verdict.the-variants.{Accepted, WrongMemory, UnnamedBit, CountOver}
+use Rattle.layout.specs.declared.check.Verdict.the-variants.{TxOver, PastMemory, Overlap}
 
 -- a refusal by its number alone: it names no section
 abbrev pub plain : ℕ → Refusal
@@ -22,12 +24,19 @@ plain n = names n 7 7
 -- what each answer of the code says in the paper's numbers
 abbrev pub meaning : Verdict → Ruling Refusal
 meaning Accepted = allowed
-meaning WrongMemory = refused (names 10 7 7)
-meaning UnnamedBit = refused (names 11 7 7)
+meaning WrongMemory = refused (plain 10)
+meaning UnnamedBit = refused (plain 11)
 meaning (CountOver i) = refused (names 12 i 7)
-meaning TxOver = refused (names 13 7 7)
+meaning TxOver = refused (plain 13)
 meaning (PastMemory i) = refused (names 14 i 7)
 meaning (Overlap i j) = refused (names 15 i j)
+
+-- a verdict as numbers alone: an accepted start has 0 and names no section
+abbrev pub numbers : Ruling Refusal → Refusal
+numbers v = settle v (plain 0) (λ a. a)
+
+abbrev pub asRefusal : Naming → Refusal
+asRefusal n = names (n .number) (n .section) (n .other)
 
 -- the first of the seven sections that has a fault is named, if one has
 abbrev pub firstWith : ℕ → (ℕ → Bool) → Ruling Refusal
@@ -35,11 +44,11 @@ firstWith n fault = refuseIf (ltb (leastFrom fault 0 7) 7) (names n (leastFrom f
 
 -- 10: the memory isn't of the given length
 abbrev pub memoryRule : ℕ → ℕ → Ruling Refusal
-memoryRule given words = refuseIf (not (eqb words given)) (names 10 7 7)
+memoryRule given words = refuseIf (not (eqb words given)) (plain 10)
 
 -- 11: some register has a bit set outside its named fields
 abbrev pub bitsRule : Registers → Ruling Refusal
-bitsRule r = refuseIf (not (allNamed r)) (names 11 7 7)
+bitsRule r = refuseIf (not (allNamed r)) (plain 11)
 
 -- 12: a count is over its most; names the first section
 abbrev pub over : Registers → ℕ → Bool
@@ -50,7 +59,7 @@ countRule r = firstWith 12 (over r)
 
 -- 13: dedicated + shared over 32
 abbrev pub txRule : Registers → Ruling Refusal
-txRule r = refuseIf (ltb 32 (bits 21 16 (r .txbc .word) + bits 29 24 (r .txbc .word))) (names 13 7 7)
+txRule r = refuseIf (ltb 32 (txCount r)) (plain 13)
 
 -- 14: the first section whose end is beyond the memory
 abbrev pub end : Section → ℕ
@@ -75,11 +84,20 @@ hasPartner ss i = ltb (partner ss i) 7
 
 -- pairs go by the lower section, then the higher
 abbrev pub pairRule : List Section → Ruling Refusal
-pairRule ss = refuseIf (ltb (leastFrom (hasPartner ss) 0 7) 7) (names 15 (leastFrom (hasPartner ss) 0 7) (partner ss (leastFrom (hasPartner ss) 0 7)))
+pairRule ss =
+    let i = leastFrom (hasPartner ss) 0 7 in
+    refuseIf (ltb i 7) (names 15 i (partner ss i))
 
 -- the rules in the order of their numbers, for a memory of so many words where one of the given length is wanted
-abbrev pub rules : ℕ → Registers → ℕ → List (Ruling Refusal)
-rules given r words = memoryRule given words ∷ bitsRule r ∷ countRule r ∷ txRule r ∷ endRule words (sectionsOf r) ∷ pairRule (sectionsOf r) ∷ []
+abbrev pub rules : ℕ → Registers → ℕ → Refusals
+rules given r words =
+    memoryRule given words
+    ∷ bitsRule r
+    ∷ countRule r
+    ∷ txRule r
+    ∷ endRule words (sectionsOf r)
+    ∷ pairRule (sectionsOf r)
+    ∷ []
 
 -- the lowest number that applies
 unfoldable pub verdict : ℕ → Registers → ℕ → Ruling Refusal

@@ -11,8 +11,10 @@ ghost use Prim.Native.Nat.{min, max};
 ghost use lib.ListN.{getD};
 ghost use Rattle.words.specs.Least.{leastFrom};
 ghost use Rattle.words.specs.Rules.{isAllowed};
+ghost use Rattle.shape.specs.Refusals.{names};
 ghost use Rattle.layout.specs.Sections.{memoryWords};
-ghost use Rattle.layout.specs.Verdict.{meaning, end, past, shares, pairRule, verdict, reported};
+ghost use Rattle.layout.specs.Verdict.{meaning, numbers, asRefusal};
+ghost use Rattle.layout.specs.Verdict.{end, past, shares, pairRule, verdict, reported};
 
 // The memory's length in words.
 pub const MEMORY_WORDS: usize = 2560;
@@ -28,6 +30,13 @@ pub enum Verdict {
     Overlap(usize, usize),
 }
 
+// What a verdict says in the paper's numbers: its own, and the two sections that it names (7 for none).
+pub struct Naming {
+    pub number: u32,
+    pub section: usize,
+    pub other: usize,
+}
+
 impl Verdict {
     pub fn accepted(self) -> bool
         ensures { λ r. ⌜ r ≡ isAllowed (meaning self) ⌝ }
@@ -37,6 +46,31 @@ impl Verdict {
         } else {
             false
         }
+    }
+
+    // Of an accepted start the number is 0.
+    pub fn naming(self) -> Naming
+        ensures { λ n. ⌜ asRefusal n ≡ numbers (meaning self) ⌝ }
+    {
+        match self {
+            Verdict::Accepted => naming_of(0, 7, 7),
+            Verdict::WrongMemory => naming_of(10, 7, 7),
+            Verdict::UnnamedBit => naming_of(11, 7, 7),
+            Verdict::CountOver(i) => naming_of(12, i, 7),
+            Verdict::TxOver => naming_of(13, 7, 7),
+            Verdict::PastMemory(i) => naming_of(14, i, 7),
+            Verdict::Overlap(i, j) => naming_of(15, i, j),
+        }
+    }
+}
+
+fn naming_of(number: u32, section: usize, other: usize) -> Naming
+    ensures { λ n. ⌜ asRefusal n ≡ names number section other ⌝ }
+{
+    Naming {
+        number,
+        section,
+        other,
     }
 }
 
@@ -125,7 +159,7 @@ pub fn check(regs: Registers, len: usize) -> Verdict
     if over < 7 {
         return Verdict::CountOver(over);
     }
-    if Txbc::MOST < regs.txbc.dedicated() + regs.txbc.shared() {
+    if Txbc::MOST < regs.tx_count() {
         return Verdict::TxOver;
     }
     let s = sections(regs);

@@ -9,8 +9,10 @@ use registers::kinds::Txefc;
 use registers::kinds::Xidfc;
 use words::WordAddress;
 ghost use mathlib.Core.Path.{_≡_};
-ghost use Prim.Native.Nat.{_<_, _≤_};
-ghost use Rattle.layout.specs.Sections.{none as noSection, section, sidfcSection, xidfcSection, rxfcSection, rxbcSection, txefcSection, txbcSection, overMost, sectionsOf};
+ghost use Prim.Native.Nat.{_≤_};
+ghost use Rattle.layout.specs.Sections.{none as noSection, section, overMost, sectionsOf};
+ghost use Rattle.layout.specs.Sections.{filters11Section, filters29Section, fifoSection};
+ghost use Rattle.layout.specs.Sections.{bufferSection, eventSection, txSection};
 
 // A section as reported: its first word and how many it has. One of count 0 has none, and starts at 0.
 pub struct Section {
@@ -40,43 +42,43 @@ fn section_of(start: WordAddress, count: u32, each: u32) -> Section
     }
 }
 
-pub fn filters11(r: Sidfc) -> Section
-    ensures { λ s. ⌜ s ≡ sidfcSection (r .word) ⌝ }
+fn filters11(r: Registers) -> Section
+    ensures { λ s. ⌜ s ≡ filters11Section r ⌝ }
 {
-    section_of(r.start(), r.count(), Sidfc::EACH)
+    section_of(r.sidfc.start(), r.sidfc.count(), Sidfc::EACH)
 }
 
-pub fn filters29(r: Xidfc) -> Section
-    ensures { λ s. ⌜ s ≡ xidfcSection (r .word) ⌝ }
+fn filters29(r: Registers) -> Section
+    ensures { λ s. ⌜ s ≡ filters29Section r ⌝ }
 {
-    section_of(r.start(), r.count(), Xidfc::EACH)
+    section_of(r.xidfc.start(), r.xidfc.count(), Xidfc::EACH)
 }
 
-pub fn fifo(r: Rxfc, code: u32) -> Section
-    requires { ⌜ code < 8 ⌝ }
-    ensures { λ s. ⌜ s ≡ rxfcSection (r .word) code ⌝ }
+// Of Rx FIFO 0 or 1.
+pub fn fifo(r: Registers, number: u32) -> Section
+    ensures { λ s. ⌜ s ≡ fifoSection r number ⌝ }
 {
-    section_of(r.start(), r.count(), element_words(code))
+    let w = r.fifo(number);
+    section_of(w.start(), w.count(), element_words(r.fifo_code(number)))
 }
 
-pub fn rx_buffers(r: Rxbc, count: u32, code: u32) -> Section
-    requires { ⌜ (count ≤ 64) × (code < 8) ⌝ }
-    ensures { λ s. ⌜ s ≡ rxbcSection (r .word) count code ⌝ }
+pub fn rx_buffers(r: Registers) -> Section
+    requires { ⌜ r .buffers ≤ 64 ⌝ }
+    ensures { λ s. ⌜ s ≡ bufferSection r ⌝ }
 {
-    section_of(r.start(), count, element_words(code))
+    section_of(r.rxbc.start(), r.buffers, element_words(r.rxesc.buffers()))
 }
 
-pub fn events(r: Txefc) -> Section
-    ensures { λ s. ⌜ s ≡ txefcSection (r .word) ⌝ }
+pub fn events(r: Registers) -> Section
+    ensures { λ s. ⌜ s ≡ eventSection r ⌝ }
 {
-    section_of(r.start(), r.count(), Txefc::EACH)
+    section_of(r.txefc.start(), r.txefc.count(), Txefc::EACH)
 }
 
-pub fn tx_buffers(r: Txbc, code: u32) -> Section
-    requires { ⌜ code < 8 ⌝ }
-    ensures { λ s. ⌜ s ≡ txbcSection (r .word) code ⌝ }
+pub fn tx_buffers(r: Registers) -> Section
+    ensures { λ s. ⌜ s ≡ txSection r ⌝ }
 {
-    section_of(r.start(), r.dedicated() + r.shared(), element_words(code))
+    section_of(r.txbc.start(), r.tx_count(), element_words(r.txesc.size()))
 }
 
 // Which of the seven counts are over their most. Of the Tx buffers, the dedicated and the shared ones each have one.
@@ -87,8 +89,8 @@ pub fn over_most(r: Registers) -> [bool; 7]
     [
         Sidfc::MOST < r.sidfc.count(),
         Xidfc::MOST < r.xidfc.count(),
-        Rxfc::MOST < r.rxf0c.count(),
-        Rxfc::MOST < r.rxf1c.count(),
+        Rxfc::MOST < r.fifo(0).count(),
+        Rxfc::MOST < r.fifo(1).count(),
         Rxbc::MOST < r.buffers,
         Txefc::MOST < r.txefc.count(),
         tx,
@@ -99,12 +101,12 @@ pub fn sections(r: Registers) -> [Section; 7]
     requires { ⌜ r .buffers ≤ 64 ⌝ }
     ensures { λ s. ⌜ s ≡ sectionsOf r ⌝ }
 {
-    let s0 = filters11(r.sidfc);
-    let s1 = filters29(r.xidfc);
-    let s2 = fifo(r.rxf0c, r.rxesc.fifo0());
-    let s3 = fifo(r.rxf1c, r.rxesc.fifo1());
-    let s4 = rx_buffers(r.rxbc, r.buffers, r.rxesc.buffers());
-    let s5 = events(r.txefc);
-    let s6 = tx_buffers(r.txbc, r.txesc.size());
+    let s0 = filters11(r);
+    let s1 = filters29(r);
+    let s2 = fifo(r, 0);
+    let s3 = fifo(r, 1);
+    let s4 = rx_buffers(r);
+    let s5 = events(r);
+    let s6 = tx_buffers(r);
     [s0, s1, s2, s3, s4, s5, s6]
 }

@@ -6,8 +6,8 @@ use mathlib.Core.List.{List}
 use lib.ListN.{take}
 use Rattle.words.specs.Choice.{pick}
 use Rattle.words.specs.Rules.{Ruling, allowed, refused}
-use Rattle.layout.specs.Sections.{memoryWords, sectionsOf}
 use Rattle.shape.specs.Refusals.{Refusal}
+use Rattle.layout.specs.Sections.{memoryWords, sectionsOf}
 use Rattle.layout.specs.Verdict.{verdict}
 use Rattle.layout.specs.declared.sections.Section.{Section}
 use Rattle.printout.specs.Ascii.{ascii}

@@ -6,9 +6,9 @@ use lib.Dec.{ltb}
 use lib.ListN.{getD}
 use Rattle.words.specs.Choice.{pick}
 use Rattle.words.specs.Rules.{Ruling, settle}
+use Rattle.shape.specs.Refusals.{Refusal}
 use Rattle.registers.specs.declared.Registers.{Registers}
 use Rattle.layout.specs.Sections.{memoryWords, none, sectionsOf}
-use Rattle.shape.specs.Refusals.{Refusal}
 use Rattle.layout.specs.Verdict.{verdict}
 use Rattle.layout.specs.declared.sections.Section.{Section}
 use Rattle.printout.specs.Ascii.{ascii}

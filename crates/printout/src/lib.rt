@@ -1,17 +1,18 @@
-// What the bench program prints for an input: the layout that its twelve registers give, its refusal, or `layout unread`.
+// What the bench program prints: the layout that its twelve registers give, its refusal, or `layout unread`.
 mod reading;
 mod text;
 
 use crate::reading::is_readable;
 use crate::reading::registers;
 use layout::check::MEMORY_WORDS;
+use layout::check::Naming;
 use layout::check::Verdict;
 use layout::check::judge;
 use layout::sections::Section;
 pub use text::Text;
 ghost use mathlib.Core.Path.{_≡_};
 ghost use Prim.Native.Nat.{_≤_};
-ghost use Rattle.layout.specs.Verdict.{meaning};
+ghost use Rattle.layout.specs.Verdict.{meaning, asRefusal};
 ghost use Rattle.printout.specs.Content.{content};
 ghost use Rattle.printout.specs.Printed.{unread, ok, refusal, told, printed};
 
@@ -33,27 +34,22 @@ fn ok_text(sections: [Section; 7]) -> Text
     t
 }
 
-fn refused_text(number: u64, section: usize, other: usize) -> Text
-    ensures { λ r. ⌜ (content r ≡ refusal (record { number = number; section = section; other = other })) × (r .len ≤ 512) ⌝ }
+fn refused_text(n: Naming) -> Text
+    ensures { λ r. ⌜ (content r ≡ refusal (asRefusal n)) × (r .len ≤ 512) ⌝ }
 {
     Text::empty()
         .push_all(b"layout refused ")
-        .push_row(number, section as u64, other as u64)
+        .push_row(n.number as u64, n.section as u64, n.other as u64)
 }
 
 // A verdict, with the sections where it accepts.
 fn verdict_text(v: Verdict, sections: [Section; 7]) -> Text
     ensures { λ r. ⌜ (content r ≡ told (meaning v) sections) × (r .len ≤ 512) ⌝ }
 {
-    match v {
-        Verdict::Accepted => ok_text(sections),
-        Verdict::WrongMemory => refused_text(10, 7, 7),
-        Verdict::UnnamedBit => refused_text(11, 7, 7),
-        Verdict::CountOver(i) => refused_text(12, i, 7),
-        Verdict::TxOver => refused_text(13, 7, 7),
-        Verdict::PastMemory(i) => refused_text(14, i, 7),
-        Verdict::Overlap(i, j) => refused_text(15, i, j),
+    if v.accepted() {
+        return ok_text(sections);
     }
+    refused_text(v.naming())
 }
 
 pub fn printout(input: &[u8]) -> Text

@@ -30,11 +30,20 @@ module _ (r : Registers) (fifo : ℕ) where
 
 pub ruleset fifos = (word-first, word-second, code-first, code-second)
 
--- a size code is one of eight
-pub code-lt : (r : Registers) (fifo : ℕ) → fifoCode r fifo < 8
-unfolding fifoCode
-code-lt r fifo = go (eqb fifo 0)
-  where
-    go : (b : Bool) → pick b (field rxescFifo0 (r .rxesc .word)) (field rxescFifo1 (r .rxesc .word)) < 8
-    go true = omega arith
-    go false = omega arith
+module _ (r : Registers) where
+  -- what is shown of FIFO 0 and of FIFO 1 is shown of whatever number
+  pub fifo-cases : (P : ℕ → ℕ → Type 0) → P (fifoWord r 0) (fifoCode r 0) → P (fifoWord r 1) (fifoCode r 1)
+      → (fifo : ℕ) → P (fifoWord r fifo) (fifoCode r fifo)
+  unfolding fifoWord fifoCode
+  fifo-cases P p q fifo = go (eqb fifo 0)
+    where
+      go : (b : Bool)
+          → P (pick b (r .rxf0c .word) (r .rxf1c .word))
+          (pick b (field rxescFifo0 (r .rxesc .word)) (field rxescFifo1 (r .rxesc .word)))
+      go true = p
+      go false = q
+
+  -- a size code is one of eight
+  pub code-lt : (fifo : ℕ) → fifoCode r fifo < 8
+  unfolding fifoCode
+  code-lt = fifo-cases (λ w code. code < 8) (omega arith) (omega arith)

@@ -1,4 +1,4 @@
--- Places and ages in a circle, over any size: each is found again from the other. All reasoning on remainders stands here.
+-- Places and ages in a circle, over any size: each is found again from the other. All reasoning on remainders is here.
 -- Assumes nothing.
 use mathlib.Core.Path.{_≡_, refl, sym, ap, _∙_}
 use mathlib.Core.Logic.{_⊎_, inl, inr}
@@ -97,7 +97,8 @@ module _ (r : Ring) (size : ℕ) (fit : Fit r size) where
       go (wrap size (r .oldest + k) (omega arith))
       (wrap size ((r .oldest + k) % size + size - r .oldest) (omega (arith, place-lt r size k (omega arith))))
     where
-      go : Wrap size (r .oldest + k) → Wrap size ((r .oldest + k) % size + size - r .oldest) → ((r .oldest + k) % size + size - r .oldest) % size ≡ k
+      go : Wrap size (r .oldest + k) → Wrap size ((r .oldest + k) % size + size - r .oldest)
+          → ((r .oldest + k) % size + size - r .oldest) % size ≡ k
       go (inl e) (inl f) = omega arith
       go (inl e) (inr f) = omega arith
       go (inr e) (inl f) = omega arith
@@ -109,7 +110,8 @@ module _ (r : Ring) (size : ℕ) (fit : Fit r size) where
       go (wrap size (p + size - r .oldest) (omega arith))
       (wrap size (r .oldest + (p + size - r .oldest) % size) (omega (arith, age-lt r size p (omega arith))))
     where
-      go : Wrap size (p + size - r .oldest) → Wrap size (r .oldest + (p + size - r .oldest) % size) → (r .oldest + (p + size - r .oldest) % size) % size ≡ p
+      go : Wrap size (p + size - r .oldest) → Wrap size (r .oldest + (p + size - r .oldest) % size)
+          → (r .oldest + (p + size - r .oldest) % size) % size ≡ p
       go (inl e) (inl f) = omega arith
       go (inl e) (inr f) = omega arith
       go (inr e) (inl f) = omega arith
@@ -135,10 +137,13 @@ module _ (r : Ring) (size : ℕ) (fit : Fit r size) where
 
   -- to give up the oldest place alone
   pub released-oldest : 0 < size → releasedThrough r size (r .oldest) ≡ released r size 1
-  released-oldest h = released-through (r .oldest) (omega arith) ∙ ap (λ (k : ℕ). released r size (k + 1)) (age-oldest h)
+  released-oldest h =
+      released-through (r .oldest) (omega arith) ∙ ap (λ (k : ℕ). released r size (k + 1)) (age-oldest h)
 
-  pub place-released-through : (p i : ℕ) → p < size → placeAfter (releasedThrough r size p) size i ≡ placeAfter r size (age r size p + 1 + i)
-  place-released-through p i h = ap (λ (n : Ring). placeAfter n size i) (released-through p h) ∙ place-released r size (age r size p + 1) i
+  pub place-released-through : (p i : ℕ) → p < size
+      → placeAfter (releasedThrough r size p) size i ≡ placeAfter r size (age r size p + 1 + i)
+  place-released-through p i h =
+      ap (λ (n : Ring). placeAfter n size i) (released-through p h) ∙ place-released r size (age r size p + 1) i
 
   -- after a full ring's overwrite, the last place is the one that was the oldest
   pub overwritten-last : 0 < size → placeAfter (overwritten r size) size (size - 1) ≡ r .oldest

@@ -50,7 +50,9 @@ same-test false false f g = refl
 
 module _ (r : Ring) (size : ℕ) (fit : Fit r size) where
   pub held-place : (i : ℕ) → i < r .fill → held r size (placeAfter r size i) ≡ true
-  held-place i h = is-held r size (placeAfter r size i) (place-lt r size i (omega arith)) (omega (arith, age-place r size fit i (omega arith)))
+  held-place i h =
+      is-held r size (placeAfter r size i) (place-lt r size i (omega arith))
+      (omega (arith, age-place r size fit i (omega arith)))
 
   -- a place is held where it is the i-th from the oldest, for an i below the fill
   pub held-index : (p : ℕ) → (held r size p ≡ true) ↔ ((i : ℕ) × ((i < r .fill) × (placeAfter r size i ≡ p)))

@@ -1,4 +1,4 @@
--- What each move does to the places that are held. By index: place i of the new ring is place i, 1 + i or k + i of the old (Circle).
+-- What each move does to the places that are held: place i of the new ring is place i, 1 + i or k + i of the old.
 -- Assumes nothing.
 use mathlib.Core.Path.{_≡_, refl, sym, ap, _∙_}
 use mathlib.Core.Bool.{Bool, true, false, _&&_, _||_, not, or-true}
@@ -10,7 +10,8 @@ use borrow.Author.Tests.{ltb-true, ltb-false, leb-true, leb-false, le-leb, lt-le
 use Rattle.words.proofs.Choices.{and-both}
 use Rattle.ring.specs.Rings.{Fit, placeAfter, putPlace, pushed, overwritten, age, held, releasedThrough, released}
 use Rattle.ring.specs.declared.Ring.{Ring}
-use Rattle.ring.proofs.Circle.{place-lt, age-lt, place-released, place-round, place-age, age-place, age-oldest, age-injective, released-through}
+use Rattle.ring.proofs.Circle.{place-lt, age-lt, place-released, place-round, place-age, age-place, age-oldest}
+use Rattle.ring.proofs.Circle.{age-injective, released-through}
 use Rattle.ring.proofs.Holding.{is-held, held-inside, held-age, full-held, same-test}
 use Rattle.ring.proofs.Fitness.{fit-overwritten, fit-released}
 
@@ -25,21 +26,28 @@ age-pushed r size q = refl
 module _ (r : Ring) (size : ℕ) (fit : Fit r size) where
   -- a place is held after a push where it was, or is the put place
   pub held-pushed : r .fill < size → (q : ℕ) → held (pushed r) size q ≡ (held r size q || eqb q (putPlace r size))
-  held-pushed h q = same-test (held (pushed r) size q) (held r size q || eqb q (putPlace r size)) (λ e. there e (ltb (age r size q) (r .fill)) refl) (back (held r size q) refl)
+  held-pushed h q =
+      same-test (held (pushed r) size q) (held r size q || eqb q (putPlace r size))
+      (λ e. there e (ltb (age r size q) (r .fill)) refl) (back (held r size q) refl)
     where
-      there : held (pushed r) size q ≡ true → (b : Bool) → ltb (age r size q) (r .fill) ≡ b → (held r size q || eqb q (putPlace r size)) ≡ true
+      there : held (pushed r) size q ≡ true → (b : Bool) → ltb (age r size q) (r .fill) ≡ b
+          → (held r size q || eqb q (putPlace r size)) ≡ true
       there e true t = rw (is-held r size q (held-inside (pushed r) size q e) (ltb-true (age r size q) (r .fill) t))
       there e false t =
-          let a : age r size q ≡ r .fill = omega (arith, held-age (pushed r) size q e, age-pushed r size q, ltb-false (age r size q) (r .fill) t) in
-          let s : q ≡ putPlace r size = sym (place-age r size fit q (held-inside (pushed r) size q e)) ∙ ap (placeAfter r size) a in
+          let a : age r size q ≡ r .fill =
+          omega (arith, held-age (pushed r) size q e, age-pushed r size q, ltb-false (age r size q) (r .fill) t) in
+          let s : q ≡ putPlace r size =
+          sym (place-age r size fit q (held-inside (pushed r) size q e)) ∙ ap (placeAfter r size) a in
           rw (eq-eqb q (putPlace r size) s, or-true)
 
       back : (b : Bool) → held r size q ≡ b → (b || eqb q (putPlace r size)) ≡ true → held (pushed r) size q ≡ true
-      back true t e = is-held (pushed r) size q (held-inside r size q t) (omega (arith, held-age r size q t, age-pushed r size q))
+      back true t e =
+          is-held (pushed r) size q (held-inside r size q t) (omega (arith, held-age r size q t, age-pushed r size q))
       back false t e =
           let s = eqb-true q (putPlace r size) e in
           let a : age r size q ≡ r .fill = ap (age r size) s ∙ age-place r size fit (r .fill) h in
-          is-held (pushed r) size q (omega (arith, place-lt r size (r .fill) (omega arith))) (omega (arith, age-pushed r size q))
+          is-held (pushed r) size q (omega (arith, place-lt r size (r .fill) (omega arith)))
+          (omega (arith, age-pushed r size q))
 
   -- after an overwrite every place is held
   pub held-overwritten : 0 < size → r .fill ≡ size → (q : ℕ) → held (overwritten r size) size q ≡ ltb q size
@@ -50,8 +58,12 @@ module _ (r : Ring) (size : ℕ) (fit : Fit r size) where
     pub age-kept : k ≤ age r size q → age (released r size k) size q ≡ age r size q - k
     age-kept a =
         ap (age (released r size k) size)
-        (sym (place-released r size k (age r size q - k) ∙ ap (placeAfter r size) (omega arith) ∙ place-age r size fit q l))
-        ∙ age-place (released r size k) size (fit-released r size fit k h) (age r size q - k) (omega (arith, age-lt r size q (omega arith)))
+        (sym
+        (place-released r size k (age r size q - k)
+        ∙ ap (placeAfter r size) (omega arith)
+        ∙ place-age r size fit q l))
+        ∙ age-place (released r size k) size (fit-released r size fit k h) (age r size q - k)
+        (omega (arith, age-lt r size q (omega arith)))
 
     -- what is given up is as far away as it can be
     pub age-given-up : age r size q < k → age (released r size k) size q ≡ age r size q + size - k
@@ -65,13 +77,18 @@ module _ (r : Ring) (size : ℕ) (fit : Fit r size) where
         ∙ age-place (released r size k) size (fit-released r size fit k h) (age r size q + size - k) (omega arith)
 
   -- of those held, the ones that are k places or more after the oldest stay
-  pub held-released : (k : ℕ) → k ≤ r .fill → (q : ℕ) → held (released r size k) size q ≡ (held r size q && leb k (age r size q))
-  held-released k h q = same-test (held (released r size k) size q) (held r size q && leb k (age r size q)) (λ e. there e (leb k (age r size q)) refl) back
+  pub held-released : (k : ℕ) → k ≤ r .fill → (q : ℕ)
+      → held (released r size k) size q ≡ (held r size q && leb k (age r size q))
+  held-released k h q =
+      same-test (held (released r size k) size q) (held r size q && leb k (age r size q))
+      (λ e. there e (leb k (age r size q)) refl) back
     where
-      there : held (released r size k) size q ≡ true → (b : Bool) → leb k (age r size q) ≡ b → (held r size q && b) ≡ true
+      there : held (released r size k) size q ≡ true → (b : Bool) → leb k (age r size q) ≡ b
+          → (held r size q && b) ≡ true
       there e true t =
           let l = held-inside (released r size k) size q e in
-          rw (is-held r size q l (omega (arith, held-age (released r size k) size q e, age-kept k h q l (leb-true k (age r size q) t))))
+          let a = age-kept k h q l (leb-true k (age r size q) t) in
+          rw (is-held r size q l (omega (arith, held-age (released r size k) size q e)))
       there e false t =
           let l = held-inside (released r size k) size q e in
           let a = leb-false k (age r size q) t in
@@ -93,7 +110,8 @@ module _ (r : Ring) (size : ℕ) (fit : Fit r size) where
       ∙ ap (λ (n : ℕ). held r size q && leb n (age r size q)) (add-one (age r size p))
 
   -- of those held, all but the oldest stay
-  pub held-released-oldest : 0 < r .fill → (q : ℕ) → held (released r size 1) size q ≡ (held r size q && not (eqb q (r .oldest)))
+  pub held-released-oldest : 0 < r .fill → (q : ℕ)
+      → held (released r size 1) size q ≡ (held r size q && not (eqb q (r .oldest)))
   held-released-oldest h q = held-released 1 h q ∙ go (held r size q) (eqb q (r .oldest)) refl refl
     where
       first : age r size (r .oldest) ≡ 0
@@ -103,5 +121,7 @@ module _ (r : Ring) (size : ℕ) (fit : Fit r size) where
       go false c e t = refl
       go true true e t = lt-leb 1 (age r size q) (omega (arith, first, ap (age r size) (eqb-true q (r .oldest) t)))
       go true false e t =
-          let n : ¬ (age r size q ≡ 0) = λ z. eqb-false q (r .oldest) t (age-injective r size fit q (r .oldest) (held-inside r size q e) (omega arith) (z ∙ sym first)) in
+          let n : ¬ (age r size q ≡ 0) =
+          λ z. eqb-false q (r .oldest) t
+          (age-injective r size fit q (r .oldest) (held-inside r size q e) (omega arith) (z ∙ sym first)) in
           le-leb 1 (age r size q) (omega arith)

@@ -4,7 +4,7 @@ use mathlib.Core.Bool.{Bool, _&&_}
 use lib.Dec.{ltb, leb}
 use Rattle.ring.specs.declared.Ring.{Ring}
 
--- a ring that can be one of this size: at size 0 both its numbers are 0. Sizes of 2 ^ 31 and more are left out, so that sums of places fit 32 bits
+-- a ring that can be one of this size, at size 0 with both numbers 0. Below 2 ^ 31, so that sums of places fit 32 bits
 pub record Fit (r : Ring) (size : ℕ) : Type 0 where
   pub small : size < 2 ^ 31
   pub place : r .oldest < max 1 size

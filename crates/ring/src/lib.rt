@@ -2,7 +2,8 @@
 ghost use mathlib.Core.Path.{_≡_};
 ghost use mathlib.Core.Bool.{true};
 ghost use Prim.Native.Nat.{_+_, _%_, _≤_, _<_, max};
-ghost use Rattle.ring.specs.Rings.{Fit, noneHeld, fits, placeAfter, putPlace, pushed, overwritten, age, held, releasedThrough};
+ghost use Rattle.ring.specs.Rings.{Fit, noneHeld, fits, placeAfter, putPlace, pushed, overwritten};
+ghost use Rattle.ring.specs.Rings.{age, held, releasedThrough};
 
 pub struct Ring {
     pub oldest: u32,

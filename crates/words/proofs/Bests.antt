@@ -37,7 +37,9 @@ module _ (candidate : ℕ → Bool) (rank : ℕ → ℕ) where
     where
       go : (k : ℕ) → k < suc n → candidate k ≡ true → (c : Bool) → eqb k n ≡ c → AsGood rank n k
       go k l t true f = let q = eqb-true k n f in inr (ap rank (sym q), omega arith)
-      go k l t false f = let z : true ≡ false = sym t ∙ h k (omega (arith, eqb-false k n f)) in absurd (let y : _≡_ {A = ℕ} 0 1 = cc in omega arith)
+      go k l t false f =
+          let z : true ≡ false = sym t ∙ h k (omega (arith, eqb-false k n f)) in
+          absurd (let y : _≡_ {A = ℕ} 0 1 = cc in omega arith)
 
   overtaken : (n b : ℕ) → Wins candidate rank n b → candidate n ≡ true → rank n < rank b → Wins candidate rank (suc n) n
   overtaken n b w e h = record { below = omega arith; one = e; best = λ k l t. go k l t (eqb k n) refl }
@@ -50,7 +52,8 @@ module _ (candidate : ℕ → Bool) (rank : ℕ → ℕ) where
           near (inl a) = inl (omega arith)
           near (inr a) = inl (omega (arith, a .0))
 
-  step : (n : ℕ) (m : Best) → IsBest candidate rank n m → (c : Bool) → candidate n ≡ c → IsBest candidate rank (suc n) (pick c (better rank m n) m)
+  step : (n : ℕ) (m : Best) → IsBest candidate rank n m → (c : Bool) → candidate n ≡ c
+      → IsBest candidate rank (suc n) (pick c (better rank m n) m)
   step n nobody h true e = first-one n h e
   step n nobody h false e = none-more n h e
   step n (somebody b) h true e = go (ltb (rank n) (rank b)) refl
@@ -62,7 +65,8 @@ module _ (candidate : ℕ → Bool) (rank : ℕ → ℕ) where
           near : (c : Bool) → eqb (rank b) (rank n) ≡ c → AsGood rank b n
           near true g = inr (eqb-true (rank b) (rank n) g, omega (arith, h .below))
           near false g = inl (omega (arith, ltb-false (rank n) (rank b) f, eqb-false (rank b) (rank n) g))
-  step n (somebody b) h false e = still n b h (λ t. let z : true ≡ false = sym t ∙ e in absurd (let y : _≡_ {A = ℕ} 0 1 = cc in omega arith))
+  step n (somebody b) h false e =
+      still n b h (λ t. let z : true ≡ false = sym t ∙ e in absurd (let y : _≡_ {A = ℕ} 0 1 = cc in omega arith))
 
   pub is-best : (n : ℕ) → IsBest candidate rank n (bestBelow candidate rank n)
   unfolding bestBelow
@@ -107,7 +111,8 @@ module _ (candidate : ℕ → Bool) (rank : ℕ → ℕ) where
   best-start = refl
 
   module _ (i : ℕ) (m : Best) (so : m ≡ bestBelow candidate rank i) where
-    pub best-turn : (next : Best) → next ≡ pick (candidate i) (better rank m i) m → next ≡ bestBelow candidate rank (i + 1)
+    pub best-turn : (next : Best) → next ≡ pick (candidate i) (better rank m i) m
+        → next ≡ bestBelow candidate rank (i + 1)
     unfolding bestBelow
     best-turn next e = e ∙ rw (so, add-one)
 
@@ -115,13 +120,15 @@ module _ (candidate : ℕ → Bool) (rank : ℕ → ℕ) where
     best-done n h l = so ∙ ap (bestBelow candidate rank) (omega arith)
 
 -- the same candidates with the same ranks have the same best
-pub best-same : (c d : ℕ → Bool) (rank other : ℕ → ℕ) (n : ℕ) → ((k : ℕ) → k < n → c k ≡ d k) → ((k : ℕ) → k < n → c k ≡ true → rank k ≡ other k)
+pub best-same : (c d : ℕ → Bool) (rank other : ℕ → ℕ) (n : ℕ) → ((k : ℕ) → k < n → c k ≡ d k)
+    → ((k : ℕ) → k < n → c k ≡ true → rank k ≡ other k)
     → bestBelow c rank n ≡ bestBelow d other n
 best-same c d rank other n p q = best-only c rank n (bestBelow d other n) (go (bestBelow d other n) (is-best d other n))
   where
     go : (m : Best) → IsBest d other n m → IsBest c rank n m
     go nobody h = λ k l. p k l ∙ h k l
-    go (somebody b) h = record { below = h .below; one = one; best = λ k l e. good k l e (h .best k l (sym (p k l) ∙ e)) }
+    go (somebody b) h =
+        record { below = h .below; one = one; best = λ k l e. good k l e (h .best k l (sym (p k l) ∙ e)) }
       where
         one : c b ≡ true
         one = p b (h .below) ∙ h .one

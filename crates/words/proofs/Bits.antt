@@ -1,8 +1,9 @@
--- The laws of bits, once over the width: what setting and clearing does to each, the lowest clear one, and that the bits make the word.
+-- The laws of bits, once over the width: setting and clearing, the lowest clear one, and that the bits make the word.
 -- Assumes nothing.
 use mathlib.Core.Path.{_≡_, refl, sym, ap, _∙_}
-use Prim.Native.Nat.{ℕ, zero, suc, _-_, _*_, _^_, _/_, _%_, _<_, _≤_, suc-le-suc, max, min}
-use native.Mathlib.Nat.{mod-lt, max-le, max-zero, pow-suc, one-mul, zero-lt-suc, not-suc-le-zero, le-of-suc-le-suc, div-one, zero-div, lt-of-le-of-lt, min-le-left}
+use Prim.Native.Nat.{ℕ, zero, suc, _+_, _-_, _*_, _^_, _/_, _%_, _<_, _≤_, suc-le-suc, max, min}
+use native.Mathlib.Nat.{mod-lt, max-le, max-zero, pow-suc, one-mul, zero-lt-suc, not-suc-le-zero, le-of-suc-le-suc}
+use native.Mathlib.Nat.{div-one, zero-div, lt-of-le-of-lt, min-le-left, div-lt-iff-lt-mul, div-le-self}
 use native.Mathlib.Numerals.{one-add}
 use native.Mathlib.Omega.{arith}
 use mathlib.Core.Bool.{Bool, true, false}
@@ -10,7 +11,7 @@ use borrow.Author.Tests.{ltb-true, ltb-false}
 use lib.Dec.{ltb}
 use lib.Arith.{digits-mod}
 use lib.Bits.{bitOr, bitAnd, and-shr, and-step, and-le-l, or-shr, or-step, or-lt}
-use lib.Pow.{pow-lt, shl-exact, shr-shr}
+use lib.Pow.{pow-lt, pow-pos, shl-exact, shr-shr}
 use lib.Count.{trailingZeros, under, trailing-le}
 use Rattle.words.specs.Bits.{bit, withBit, withoutMask, withoutBit, LowestClear}
 
@@ -21,6 +22,10 @@ bit-zero w = ap (λ (x : ℕ). x % 2) (div-one w)
 pub bit-suc : (w m : ℕ) → bit w (suc m) ≡ bit (w / 2) m
 bit-suc w m = ap (λ (x : ℕ). x % 2) (ap (λ (k : ℕ). w / 2 ^ k) (sym (one-add m)) ∙ sym (shr-shr w 1 m))
 
+-- bit m of a word shifted down by n
+pub bit-shifted : (w n m : ℕ) → bit (w / 2 ^ n) m ≡ bit w (n + m)
+bit-shifted w n m = ap (λ (x : ℕ). x % 2) (shr-shr w n m)
+
 pub bit-lt : (w n : ℕ) → bit w n < 2
 bit-lt w n = mod-lt (w / 2 ^ n) (zero-lt-suc 1)
 
@@ -28,12 +33,13 @@ bit-lt w n = mod-lt (w / 2 ^ n) (zero-lt-suc 1)
 pub bit-or : (a b n : ℕ) → bit (bitOr a b) n ≡ max (bit a n) (bit b n)
 bit-or a b n =
     ap (λ (x : ℕ). x % 2) (or-shr a b n ∙ or-step (a / 2 ^ n) (b / 2 ^ n))
-    ∙ digits-mod (bitOr (a / 2 ^ n / 2) (b / 2 ^ n / 2)) (suc-le-suc (max-le (le-of-suc-le-suc (bit-lt a n)) (le-of-suc-le-suc (bit-lt b n))))
+    ∙ digits-mod (bitOr (a / 2 ^ n / 2) (b / 2 ^ n / 2))
+    (suc-le-suc (max-le (le-of-suc-le-suc (bit-lt a n)) (le-of-suc-le-suc (bit-lt b n))))
 
--- of 2 ^ n only bit n is set
-bit-of-zero : (m : ℕ) → bit 0 m ≡ 0
+pub bit-of-zero : (m : ℕ) → bit 0 m ≡ 0
 bit-of-zero m = simp (zero-div)
 
+-- of 2 ^ n only bit n is set
 pub bit-pow-same : (n : ℕ) → bit (2 ^ n) n ≡ 1
 bit-pow-same zero = refl
 bit-pow-same (suc n) = bit-suc (2 ^ suc n) n ∙ ap (λ (x : ℕ). bit x n) (omega (arith, pow-suc 2 n)) ∙ bit-pow-same n
@@ -81,7 +87,8 @@ unfolding trailingZeros
 trailing-below zero n m h = absurd (not-suc-le-zero h)
 trailing-below (suc k) n m h = go (λ i. trailing-below k (n / 2) i) (n % 2) m refl h
   where
-    go : ((i : ℕ) → i < trailingZeros k (n / 2) → bit (n / 2) i ≡ 0) → (d m : ℕ) → n % 2 ≡ d → m < under d (trailingZeros k (n / 2)) → bit n m ≡ 0
+    go : ((i : ℕ) → i < trailingZeros k (n / 2) → bit (n / 2) i ≡ 0) → (d m : ℕ) → n % 2 ≡ d
+        → m < under d (trailingZeros k (n / 2)) → bit n m ≡ 0
     go rest zero zero e l = bit-zero n ∙ e
     go rest zero (suc m) e l = bit-suc n m ∙ rest m (le-of-suc-le-suc l)
     go rest (suc d) m e l = absurd (not-suc-le-zero l)
@@ -91,14 +98,16 @@ unfolding trailingZeros
 trailing-at zero n h = absurd (not-suc-le-zero h)
 trailing-at (suc k) n h = go (trailing-at k (n / 2)) (n % 2) refl h
   where
-    go : (trailingZeros k (n / 2) < k → bit (n / 2) (trailingZeros k (n / 2)) ≡ 1) → (d : ℕ) → n % 2 ≡ d → under d (trailingZeros k (n / 2)) < suc k → bit n (under d (trailingZeros k (n / 2))) ≡ 1
+    go : (trailingZeros k (n / 2) < k → bit (n / 2) (trailingZeros k (n / 2)) ≡ 1) → (d : ℕ) → n % 2 ≡ d
+        → under d (trailingZeros k (n / 2)) < suc k → bit n (under d (trailingZeros k (n / 2))) ≡ 1
     go rest zero e l = bit-suc n (trailingZeros k (n / 2)) ∙ rest (le-of-suc-le-suc l)
     go rest (suc d) e l = bit-zero n ∙ omega arith
 
 -- the bits of the complement
 pub bit-not : (k a m : ℕ) → a < 2 ^ k → m < k → bit ((2 ^ k - 1) - a) m ≡ 1 - bit a m
 bit-not zero a m h l = absurd (not-suc-le-zero l)
-bit-not (suc k) a zero h l = bit-zero ((2 ^ suc k - 1) - a) ∙ omega (arith, pow-suc 2 k) ∙ ap (λ (x : ℕ). 1 - x) (sym (bit-zero a))
+bit-not (suc k) a zero h l =
+    bit-zero ((2 ^ suc k - 1) - a) ∙ omega (arith, pow-suc 2 k) ∙ ap (λ (x : ℕ). 1 - x) (sym (bit-zero a))
 bit-not (suc k) a (suc m) h l =
     bit-suc ((2 ^ suc k - 1) - a) m
     ∙ ap (λ (x : ℕ). bit x m) (omega (arith, pow-suc 2 k))
@@ -108,8 +117,12 @@ bit-not (suc k) a (suc m) h l =
 pub lowest : (k w : ℕ) → w < 2 ^ k → LowestClear k w (trailingZeros k ((2 ^ k - 1) - w))
 lowest k w h = record {
   within = trailing-le k ((2 ^ k - 1) - w);
-  below = λ m l. omega (arith, bit-lt w m, bit-not k w m h (omega (arith, trailing-le k ((2 ^ k - 1) - w))), trailing-below k ((2 ^ k - 1) - w) m l);
-  clear = λ l. omega (arith, bit-lt w (trailingZeros k ((2 ^ k - 1) - w)), bit-not k w (trailingZeros k ((2 ^ k - 1) - w)) h l, trailing-at k ((2 ^ k - 1) - w) l);
+  below = λ m l.
+      let n = bit-not k w m h (omega (arith, trailing-le k ((2 ^ k - 1) - w))) in
+      omega (arith, bit-lt w m, trailing-below k ((2 ^ k - 1) - w) m l);
+  clear = λ l.
+      let z = trailingZeros k ((2 ^ k - 1) - w) in
+      omega (arith, bit-lt w z, bit-not k w z h l, trailing-at k ((2 ^ k - 1) - w) l);
 }
 
 -- a word has one lowest clear bit
@@ -135,7 +148,8 @@ bit-and a b n =
     ∙ digits-mod (bitAnd (a / 2 ^ n / 2) (b / 2 ^ n / 2)) (min-lt (bit a n) (bit b n) (bit-lt a n))
 
 -- a bit of the mask is cleared, and every other is as it was
-pub cleared-bit : (k w mask n : ℕ) → mask < 2 ^ k → n < k → bit (withoutMask k w mask) n ≡ min (bit w n) (1 - bit mask n)
+pub cleared-bit : (k w mask n : ℕ) → mask < 2 ^ k → n < k
+    → bit (withoutMask k w mask) n ≡ min (bit w n) (1 - bit mask n)
 unfolding withoutMask
 cleared-bit k w mask n h l = bit-and w (2 ^ k - 1 - mask) n ∙ ap (min (bit w n)) (bit-not k mask n h l)
 
@@ -149,6 +163,11 @@ cleared-same k w n h = omega (arith, cleared-bit k w (2 ^ n) n (pow-lt h) h, bit
 pub cleared-other : (k w n m : ℕ) → n < k → m < k → (m ≡ n → ⊥) → bit (withoutBit k w n) m ≡ bit w m
 cleared-other k w n m h l ne = omega (arith, cleared-bit k w (2 ^ n) m (pow-lt h) l, bit-pow-other n m ne, bit-lt w m)
 
+-- a clear bit stays clear, also one past the word
+pub cleared-clear : (k w mask n : ℕ) → bit w n ≡ 0 → bit (withoutMask k w mask) n ≡ 0
+unfolding withoutMask
+cleared-clear k w mask n z = omega (arith, bit-and w (2 ^ k - 1 - mask) n)
+
 -- what `word & !(1 << n)` gives
 pub cleared-shifted : (k w n : ℕ) → n < k → bitAnd w (2 ^ k - 1 - (1 * 2 ^ n) % 2 ^ k) ≡ withoutBit k w n
 unfolding withoutMask
@@ -159,6 +178,21 @@ cleared-shifted k w n h = ap (λ (x : ℕ). bitAnd w (2 ^ k - 1 - x)) (shifted k
 pub same-bits : (k a b : ℕ) → a < 2 ^ k → b < 2 ^ k → ((n : ℕ) → n < k → bit a n ≡ bit b n) → a ≡ b
 same-bits zero a b ha hb h = omega arith
 same-bits (suc k) a b ha hb h =
-    let half : a / 2 ≡ b / 2 = same-bits k (a / 2) (b / 2) (omega (arith, pow-suc 2 k)) (omega (arith, pow-suc 2 k)) (λ n l. sym (bit-suc a n) ∙ h (suc n) (omega arith) ∙ bit-suc b n) in
+    let half : a / 2 ≡ b / 2 =
+    same-bits k (a / 2) (b / 2) (omega (arith, pow-suc 2 k)) (omega (arith, pow-suc 2 k))
+    (λ n l. sym (bit-suc a n) ∙ h (suc n) (omega arith) ∙ bit-suc b n) in
     let low : a % 2 ≡ b % 2 = sym (bit-zero a) ∙ h 0 (omega arith) ∙ bit-zero b in
     omega arith
+
+below-own-power : (w : ℕ) → w < 2 ^ w
+below-own-power zero = omega arith
+below-own-power (suc w) = omega (arith, below-own-power w)
+
+-- a word with no bit at n or above is below 2 ^ n
+pub below-power : (w n : ℕ) → ((m : ℕ) → n ≤ m → bit w m ≡ 0) → w < 2 ^ n
+below-power w n none =
+    let small : w / 2 ^ n < 2 ^ w = omega (arith, below-own-power w, div-le-self w (2 ^ n)) in
+    let nothing : w / 2 ^ n ≡ 0
+    = same-bits w (w / 2 ^ n) 0 small (pow-pos w)
+    (λ m l. bit-shifted w n m ∙ none (n + m) (omega arith) ∙ sym (bit-of-zero m)) in
+    omega (arith, div-lt-iff-lt-mul {k = 2 ^ n} {x = w} {y = 1} (pow-pos n) .0 (omega arith))

@@ -33,5 +33,7 @@ ones-many zero w h = let z : w ≡ 0 = omega arith in rw z
 ones-many (suc k) w h =
     ones-step w
     ∙ ap₂ _+_ (sym (one-of (w % 2) (omega arith)) ∙ ap (λ (x : ℕ). pick (lib.Dec.eqb x 1) 1 0) (sym (bit-zero w)))
-    (ones-many k (w / 2) (omega (arith, pow-suc 2 k)) ∙ many-same (isSet (w / 2)) (λ n. isSet w (suc n)) k (λ n l. ap (λ (x : ℕ). lib.Dec.eqb x 1) (sym (bit-suc w n))))
+    (ones-many k (w / 2) (omega (arith, pow-suc 2 k))
+    ∙ many-same (isSet (w / 2)) (λ n. isSet w (suc n)) k
+    (λ n l. ap (λ (x : ℕ). lib.Dec.eqb x 1) (sym (bit-suc w n))))
     ∙ sym (up (isSet w) k)

@@ -19,7 +19,9 @@ lane-back a b c e (suc (suc (suc zero))) ha hb hc he hj = omega arith
 lane-back a b c e (suc (suc (suc (suc j)))) ha hb hc he hj = absurd (omega arith)
 
 module _ (d : List ℕ) (small : (i : ℕ) → getD d i 0 < 256) where
-  lanes : (k j i : ℕ) → j < 4 → i ≡ 4 * k + j → getD (getD d (4 * k) 0 ∷ getD d (4 * k + 1) 0 ∷ getD d (4 * k + 2) 0 ∷ getD d (4 * k + 3) 0 ∷ []) j 0 ≡ getD d i 0
+  lanes : (k j i : ℕ) → j < 4 → i ≡ 4 * k + j
+      → getD (getD d (4 * k) 0 ∷ getD d (4 * k + 1) 0 ∷ getD d (4 * k + 2) 0 ∷ getD d (4 * k + 3) 0 ∷ []) j 0
+      ≡ getD d i 0
   lanes k zero i h e = ap (λ (x : ℕ). getD d x 0) (omega arith)
   lanes k (suc zero) i h e = ap (λ (x : ℕ). getD d x 0) (omega arith)
   lanes k (suc (suc zero)) i h e = ap (λ (x : ℕ). getD d x 0) (omega arith)
@@ -30,7 +32,8 @@ module _ (d : List ℕ) (small : (i : ℕ) → getD d i 0 < 256) where
   pub byte-back : (i : ℕ) → byteOf (wordOf d (i / 4)) (i % 4) ≡ getD d i 0
   unfolding wordOf
   byte-back i =
-      lane-back _ _ _ _ (i % 4) (small (4 * (i / 4))) (small (4 * (i / 4) + 1)) (small (4 * (i / 4) + 2)) (small (4 * (i / 4) + 3)) (omega arith)
+      lane-back _ _ _ _ (i % 4) (small (4 * (i / 4))) (small (4 * (i / 4) + 1)) (small (4 * (i / 4) + 2))
+      (small (4 * (i / 4) + 3)) (omega arith)
       ∙ lanes (i / 4) (i % 4) i (omega arith) (omega arith)
 
   -- words that hold the data give its bytes back

@@ -53,7 +53,8 @@ module _ (p : ℕ → Bool) where
   least-passes i zero h = absurd (omega arith)
   least-passes i (suc n) h = go (p i) refl h (least-passes (suc i) n)
     where
-      go : (b : Bool) → p i ≡ b → pick b i (leastFrom p (suc i) n) < i + suc n → (leastFrom p (suc i) n < suc i + n → p (leastFrom p (suc i) n) ≡ true)
+      go : (b : Bool) → p i ≡ b → pick b i (leastFrom p (suc i) n) < i + suc n
+          → (leastFrom p (suc i) n < suc i + n → p (leastFrom p (suc i) n) ≡ true)
           → p (pick b i (leastFrom p (suc i) n)) ≡ true
       go true e l ih = e
       go false e l ih = ih (omega arith)
@@ -63,7 +64,8 @@ module _ (p : ℕ → Bool) where
   least-below i zero k a h = absurd (omega arith)
   least-below i (suc n) k a h = go (p i) refl h (least-below (suc i) n k)
     where
-      go : (b : Bool) → p i ≡ b → k < pick b i (leastFrom p (suc i) n) → (suc i ≤ k → k < leastFrom p (suc i) n → p k ≡ false) → p k ≡ false
+      go : (b : Bool) → p i ≡ b → k < pick b i (leastFrom p (suc i) n)
+          → (suc i ≤ k → k < leastFrom p (suc i) n → p k ≡ false) → p k ≡ false
       go true e l ih = absurd (omega arith)
       go false e l ih = near (eqb i k) refl
         where
@@ -72,7 +74,8 @@ module _ (p : ℕ → Bool) where
           near false f = ih (omega (arith, eqb-false i k f)) l
 
   -- a number that passes, with none below it that does, is the lowest
-  pub least-is : (i n k : ℕ) → i ≤ k → k < i + n → p k ≡ true → ((j : ℕ) → i ≤ j → j < k → p j ≡ false) → leastFrom p i n ≡ k
+  pub least-is : (i n k : ℕ) → i ≤ k → k < i + n → p k ≡ true → ((j : ℕ) → i ≤ j → j < k → p j ≡ false)
+      → leastFrom p i n ≡ k
   least-is i n k a b e none = go (ltb (leastFrom p i n) k) refl
     where
       go : (c : Bool) → ltb (leastFrom p i n) k ≡ c → leastFrom p i n ≡ k
@@ -106,13 +109,16 @@ module _ (p : ℕ → Bool) (whole i n : ℕ) (left : whole ≡ leastFrom p i (n
   look-found h e = sym (left ∙ least-here p i (n - i) (omega arith) e)
 
   pub look-on : i < n → p i ≡ false → whole ≡ leastFrom p (i + 1) (n - (i + 1))
-  look-on h e = let m : n - i - 1 ≡ n - (i + 1) = omega arith in left ∙ least-next p i (n - i) (omega arith) e ∙ ap (leastFrom p (i + 1)) m
+  look-on h e =
+      let m : n - i - 1 ≡ n - (i + 1) = omega arith in
+      left ∙ least-next p i (n - i) (omega arith) e ∙ ap (leastFrom p (i + 1)) m
 
   pub look-done : i ≤ n → n ≤ i → n ≡ whole
   look-done h l = let e : n ≡ i = omega arith in e ∙ sym (left ∙ least-none p i (n - i) (omega arith))
 
 -- two tests that agree have the same lowest number
-pub least-same : (p q : ℕ → Bool) (i n : ℕ) → ((k : ℕ) → i ≤ k → k < i + n → p k ≡ q k) → leastFrom p i n ≡ leastFrom q i n
+pub least-same : (p q : ℕ → Bool) (i n : ℕ) → ((k : ℕ) → i ≤ k → k < i + n → p k ≡ q k)
+    → leastFrom p i n ≡ leastFrom q i n
 unfolding leastFrom
 least-same p q i zero h = refl
 least-same p q i (suc n) h =

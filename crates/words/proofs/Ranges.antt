@@ -3,7 +3,7 @@
 use Prim.Native.Nat.{ℕ, _+_, _≤_, _<_}
 use mathlib.Core.Path.{_≡_, refl, _∙_}
 use mathlib.Core.List.{List}
-use mathlib.Core.Logic.{_⊎_, inl, inr}
+use mathlib.Core.Logic.{inl, inr}
 use native.Mathlib.Omega.{arith}
 use lib.ListN.{length, getD}
 use Rattle.words.specs.Ranges.{Range, range, rangeEnd, Outside, ApartFrom, SameIn, OnlyIn}
@@ -21,7 +21,8 @@ pub only-then : (r : Range) (l m n : List ℕ) → OnlyIn r l m → OnlyIn r m n
 only-then r l m n a b = record { size = b .size ∙ a .size; outside = λ k o. b .outside k o ∙ a .outside k o }
 
 -- a range that holds another
-pub only-wider : (r q : Range) (l m : List ℕ) → r .from ≤ q .from → rangeEnd q ≤ rangeEnd r → OnlyIn q l m → OnlyIn r l m
+pub only-wider : (r q : Range) (l m : List ℕ) → r .from ≤ q .from → rangeEnd q ≤ rangeEnd r → OnlyIn q l m
+    → OnlyIn r l m
 only-wider r q l m a b h = record { size = h .size; outside = λ k o. h .outside k (go k o) }
   where
     go : (k : ℕ) → Outside r k → Outside q k
@@ -36,7 +37,8 @@ only-apart r q l m h d = record { size = h .size; within = λ k a b. h .outside 
     go k a b (inl e) = inr (omega arith)
     go k a b (inr e) = inl (omega arith)
 
-pub splice-only : (l : List ℕ) (at : ℕ) (ws : List ℕ) → at + length ws ≤ length l → OnlyIn (range at (length ws)) l (splice l at ws)
+pub splice-only : (l : List ℕ) (at : ℕ) (ws : List ℕ) → at + length ws ≤ length l
+    → OnlyIn (range at (length ws)) l (splice l at ws)
 splice-only l at ws h = record { size = splice-length l at ws h; outside = go }
   where
     go : (k : ℕ) → Outside (range at (length ws)) k → getD (splice l at ws) k 0 ≡ getD l k 0

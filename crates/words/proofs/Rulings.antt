@@ -58,14 +58,16 @@ module _ {A : Type 0} where
       let p = both-allowed (refuseIf x a) (first (refuseIf y b ∷ [])) e in
       (held-off x a (p .0), one-rule y b (p .1))
 
-  pub all-three : (x y z : Bool) (a b c : A) → first (refuseIf x a ∷ refuseIf y b ∷ refuseIf z c ∷ []) ≡ allowed → (x ≡ false) × (y ≡ false) × (z ≡ false)
+  pub all-three : (x y z : Bool) (a b c : A) → first (refuseIf x a ∷ refuseIf y b ∷ refuseIf z c ∷ []) ≡ allowed
+      → (x ≡ false) × (y ≡ false) × (z ≡ false)
   all-three x y z a b c e =
       let p = both-allowed (refuseIf x a) (first (refuseIf y b ∷ refuseIf z c ∷ [])) e in
       let q = all-two y z b c (p .1) in
       (held-off x a (p .0), q .0, q .1)
 
   -- two rules found first, and a third after them
-  pub two-refuse : (r q t : Ruling A) {a : A} → (r orElse (q orElse allowed)) ≡ refused a → (r orElse (q orElse t)) ≡ refused a
+  pub two-refuse : (r q t : Ruling A) {a : A} → (r orElse (q orElse allowed)) ≡ refused a
+      → (r orElse (q orElse t)) ≡ refused a
   two-refuse allowed allowed t e = cc
   two-refuse allowed (refused b) t e = e
   two-refuse (refused b) q t e = e
@@ -76,7 +78,8 @@ module _ {A : Type 0} where
   two-allow (refused b) q t e = cc
 
   -- what is shown of both ways is shown of what is settled
-  pub settled : {B : Type 0} (P : B → Type 0) (v : Ruling A) (b : B) (f : A → B) → ((a : A) → P (f a)) → (v ≡ allowed → P b) → P (settle v b f)
+  pub settled : {B : Type 0} (P : B → Type 0) (v : Ruling A) (b : B) (f : A → B) → ((a : A) → P (f a))
+      → (v ≡ allowed → P b) → P (settle v b f)
   settled P allowed b f p q = q refl
   settled P (refused a) b f p q = p a
 
@@ -91,7 +94,8 @@ module _ {A : Type 0} where
   refused-first [] k a d = absurd (omega (arith, d .0))
   refused-first (r ∷ rs) zero a d = halted (first rs) (d .1)
   refused-first (r ∷ rs) (suc k) a d =
-      passed (first rs) (d .2 0 (omega arith)) ∙ refused-first rs k a (omega (arith, d .0), d .1, λ j h. d .2 (suc j) (omega arith))
+      passed (first rs) (d .2 0 (omega arith))
+      ∙ refused-first rs k a (omega (arith, d .0), d .1, λ j h. d .2 (suc j) (omega arith))
 
   pub first-refused : (rs : List (Ruling A)) (a : A) → first rs ≡ refused a → (k : ℕ) × Decides rs k a
   first-refused [] a e = let z : _≡_ {A = ℕ} 0 1 = cc in absurd (omega arith)
@@ -99,7 +103,8 @@ module _ {A : Type 0} where
       let i = first-refused rs a e in
       (suc (i .0), (omega (arith, i .1 .0), i .1 .1, later (i .0) (i .1 .2)))
     where
-      later : (k : ℕ) → ((j : ℕ) → j < k → getD rs j allowed ≡ allowed) → (j : ℕ) → j < suc k → getD (allowed ∷ rs) j allowed ≡ allowed
+      later : (k : ℕ) → ((j : ℕ) → j < k → getD rs j allowed ≡ allowed) → (j : ℕ) → j < suc k
+          → getD (allowed ∷ rs) j allowed ≡ allowed
       later k h zero l = refl
       later k h (suc j) l = h j (omega arith)
   first-refused (refused b ∷ rs) a e = (zero, (omega arith, e, λ j h. absurd (omega arith)))
@@ -109,6 +114,7 @@ module _ {A : Type 0} where
   all-allowed (r ∷ rs) e zero = both-allowed r (first rs) e .0
   all-allowed (r ∷ rs) e (suc k) = all-allowed rs (both-allowed r (first rs) e .1) k
 
-  pub allowed-all : (rs : List (Ruling A)) → ((k : ℕ) → k < length rs → getD rs k allowed ≡ allowed) → first rs ≡ allowed
+  pub allowed-all : (rs : List (Ruling A)) → ((k : ℕ) → k < length rs → getD rs k allowed ≡ allowed)
+      → first rs ≡ allowed
   allowed-all [] h = refl
   allowed-all (r ∷ rs) h = passed (first rs) (h 0 (omega arith)) ∙ allowed-all rs (λ k l. h (suc k) (omega arith))

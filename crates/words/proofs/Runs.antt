@@ -6,8 +6,10 @@ use Prim.Native.Nat.{ℕ, zero, suc, _+_, _-_, _<_, _≤_}
 use native.Mathlib.Nat.{add-zero, zero-add, not-suc-le-zero, le-of-suc-le-suc}
 use native.Mathlib.Numerals.{add-one}
 use native.Mathlib.Omega.{arith}
-use lib.ListN.{length, getD, take, drop, set, length-append, length-drop, length-set, take-append-drop, List·getD-append}
+use lib.ListN.{length, getD, take, drop, set, length-append, length-drop, length-set, take-append-drop}
+use lib.ListN.{List·getD-append}
 use lib.Seq.{length-take-le, drop-cons, set-at, append-snoc, getD-append-add, getD-take, getD-drop, sets, sets-eq}
+use lib.Seq.{ext-getD}
 use Rattle.words.specs.Runs.{run, splice}
 
 module _ (f : ℕ → ℕ) where
@@ -26,13 +28,25 @@ module _ (f : ℕ → ℕ) where
   pub run-more : (k n : ℕ) → run f k (suc n) ≡ run f k n ++ (f (k + n) ∷ [])
   unfolding run
   run-more k zero = ap (λ (x : ℕ). f x ∷ []) (sym (add-zero k))
-  run-more k (suc n) = ap (λ (r : List ℕ). f k ∷ r) (run-more (suc k) n ∙ ap (λ (x : ℕ). run f (suc k) n ++ (f x ∷ [])) (omega arith))
+  run-more k (suc n) =
+      ap (λ (r : List ℕ). f k ∷ r) (run-more (suc k) n ∙ ap (λ (x : ℕ). run f (suc k) n ++ (f x ∷ [])) (omega arith))
+
+-- two runs of the same values
+pub run-alike : (f g : ℕ → ℕ) (j k n : ℕ) → ((i : ℕ) → i < n → f (j + i) ≡ g (k + i)) → run f j n ≡ run g k n
+run-alike f g j k n same =
+    ext-getD 0 (run f j n) (run g k n) (length-run f j n ∙ sym (length-run g k n))
+    (λ i l.
+    let h : i < n = omega (arith, length-run f j n) in
+    getD-run f j n i h ∙ same i h ∙ sym (getD-run g k n i h))
 
 module _ (l : List ℕ) (at : ℕ) where
   pub splice-none : l ≡ splice l at []
   unfolding splice
   splice-none =
-      sym (ap (λ (k : ℕ). take at l ++ [] ++ drop k l) (add-zero at) ∙ ap (λ (r : List ℕ). r ++ drop at l) (append-nil (take at l)) ∙ take-append-drop at l)
+      sym
+      (ap (λ (k : ℕ). take at l ++ [] ++ drop k l) (add-zero at)
+      ∙ ap (λ (r : List ℕ). r ++ drop at l) (append-nil (take at l))
+      ∙ take-append-drop at l)
 
   front : (ws : List ℕ) → at ≤ length l → length (take at l ++ ws) ≡ at + length ws
   front ws h = length-append (take at l) ws ∙ ap (λ (k : ℕ). k + length ws) (length-take-le at l h)
@@ -87,7 +101,8 @@ module _ (l : List ℕ) (at : ℕ) where
     sets-splice = sym (sets-eq ws l at h)
 
 -- a store in front of what is replaced
-pub splice-cons : (l : List ℕ) (at a : ℕ) (ws : List ℕ) → at + 1 + length ws ≤ length l → splice (set l at a) (at + 1) ws ≡ splice l at (a ∷ ws)
+pub splice-cons : (l : List ℕ) (at a : ℕ) (ws : List ℕ) → at + 1 + length ws ≤ length l
+    → splice (set l at a) (at + 1) ws ≡ splice l at (a ∷ ws)
 splice-cons l at a ws h =
     ap (λ (k : ℕ). splice (set l at a) k ws) (add-one at)
     ∙ sets-splice (set l at a) (suc at) ws (omega (arith, length-set l at a))
@@ -106,12 +121,16 @@ module _ (f : ℕ → ℕ) (l : List ℕ) (at : ℕ) where
         ap (λ (x : List ℕ). set x (at + k) v) so
         ∙ ap (λ (x : ℕ). set (splice l at (run f 0 k)) (at + x) v) (sym (length-run f 0 k))
         ∙ splice-snoc l at (run f 0 k) v (omega (arith, length-run f 0 k))
-        ∙ ap (λ (r : List ℕ). splice l at r) (ap (λ (x : ℕ). run f 0 k ++ (x ∷ [])) (e ∙ ap f (omega arith)) ∙ sym (run-more f 0 k) ∙ ap (run f 0) (sym (add-one k)))
+        ∙ ap (λ (r : List ℕ). splice l at r)
+        (ap (λ (x : ℕ). run f 0 k ++ (x ∷ [])) (e ∙ ap f (omega arith))
+        ∙ sym (run-more f 0 k)
+        ∙ ap (run f 0) (sym (add-one k)))
 
     pub run-done : k ≤ n → n ≤ k → m ≡ splice l at (run f 0 n)
     run-done h r = so ∙ ap (λ (x : ℕ). splice l at (run f 0 x)) (omega arith)
 
 -- the same at the front of a list
-pub front-turn : (f : ℕ → ℕ) (l m : List ℕ) (k n v : ℕ) → m ≡ splice l 0 (run f 0 k) → k < n → n ≤ length l → v ≡ f k → set m k v ≡ splice l 0 (run f 0 (k + 1))
+pub front-turn : (f : ℕ → ℕ) (l m : List ℕ) (k n v : ℕ) → m ≡ splice l 0 (run f 0 k) → k < n → n ≤ length l → v ≡ f k
+    → set m k v ≡ splice l 0 (run f 0 (k + 1))
 front-turn f l m k n v so h r e =
     ap (λ (x : ℕ). set m x v) (sym (zero-add k)) ∙ run-turn f l 0 m k n so v h (omega arith) e

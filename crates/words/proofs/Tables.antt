@@ -15,7 +15,8 @@ unfoldable pub every : (ℕ → ℕ → Bool) → ℕ → List ℕ → Bool
 every p i [] = true
 every p i (x ∷ xs) = p i x && every p (suc i) xs
 
-every-from : (p : ℕ → ℕ → Bool) (i : ℕ) (xs : List ℕ) → T (every p i xs) → (k : ℕ) → k < length xs → T (p (i + k) (getD xs k 0))
+every-from : (p : ℕ → ℕ → Bool) (i : ℕ) (xs : List ℕ) → T (every p i xs) → (k : ℕ) → k < length xs
+    → T (p (i + k) (getD xs k 0))
 unfolding every
 every-from p i [] t k h = absurd (omega arith)
 every-from p i (x ∷ xs) t zero h =
@@ -23,7 +24,8 @@ every-from p i (x ∷ xs) t zero h =
     subst (λ (n : ℕ). T (p n x)) e (and-left (p i x) (every p (suc i) xs) t)
 every-from p i (x ∷ xs) t (suc k) h =
     let e : suc i + k ≡ i + suc k = omega arith in
-    subst (λ (n : ℕ). T (p n (getD xs k 0))) e (every-from p (suc i) xs (and-right (p i x) (every p (suc i) xs) t) k (omega arith))
+    subst (λ (n : ℕ). T (p n (getD xs k 0))) e
+    (every-from p (suc i) xs (and-right (p i x) (every p (suc i) xs) t) k (omega arith))
 
 pub every-at : (p : ℕ → ℕ → Bool) (xs : List ℕ) → T (every p 0 xs) → (k : ℕ) → k < length xs → T (p k (getD xs k 0))
 every-at p xs t k h = subst (λ (n : ℕ). T (p n (getD xs k 0))) (zero-add k) (every-from p 0 xs t k h)

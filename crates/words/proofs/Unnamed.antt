@@ -1,4 +1,4 @@
--- A word is what its kind's mask keeps of it exactly where each bit in no named field is 0: one law for every kind of register.
+-- A word is what its kind's mask keeps of it exactly where each bit in no named field is 0: one law for every kind.
 -- Assumes nothing.
 use Prim.Native.Nat.{ℕ, zero, suc, _/_, _%_, _^_, _≤_, _<_, min}
 use mathlib.Core.Path.{_≡_, refl, sym, ap, _∙_}
@@ -28,7 +28,8 @@ kept =
     (λ m f. and-zero-l m)
     (λ w ih m f.
     let e : bitAnd (w / 2) (m / 2) ≡ w / 2 = ih (m / 2) (λ k z. sym (bit-suc w k) ∙ f (suc k) (bit-suc m k ∙ z)) in
-    let l : min (w % 2) (m % 2) ≡ w % 2 = low-bit (w % 2) (m % 2) (omega arith) (λ z. let g = f 0 (omega arith) in omega arith) in
+    let l : min (w % 2) (m % 2) ≡ w % 2 =
+    low-bit (w % 2) (m % 2) (omega arith) (λ z. let g = f 0 (omega arith) in omega arith) in
     omega (arith, and-step w m))
 
 bits-kept : (w m : ℕ) → bitAnd w m ≡ w → (k : ℕ) → bit m k ≡ 0 → bit w k ≡ 0
@@ -53,12 +54,14 @@ agree-at : (fs : List (ℕ × ℕ)) (n : ℕ) → T (agrees fs n) → (k : ℕ) 
 unfolding agrees
 agree-at fs zero t k h = absurd (omega arith)
 agree-at fs (suc n) t k h =
-    go (ltb k n) refl (agree-at fs n (and-right (Bool·beq (inField fs n) (eqb (bit (maskOf fs) n) 1)) (agrees fs n) t) k)
+    go (ltb k n) refl
+    (agree-at fs n (and-right (Bool·beq (inField fs n) (eqb (bit (maskOf fs) n) 1)) (agrees fs n) t) k)
   where
     here : inField fs n ≡ eqb (bit (maskOf fs) n) 1
     here = beq-eq _ _ (and-left (Bool·beq (inField fs n) (eqb (bit (maskOf fs) n) 1)) (agrees fs n) t)
 
-    go : (b : Bool) → ltb k n ≡ b → (k < n → inField fs k ≡ eqb (bit (maskOf fs) k) 1) → inField fs k ≡ eqb (bit (maskOf fs) k) 1
+    go : (b : Bool) → ltb k n ≡ b → (k < n → inField fs k ≡ eqb (bit (maskOf fs) k) 1)
+        → inField fs k ≡ eqb (bit (maskOf fs) k) 1
     go true e ih = ih (ltb-true k n e)
     go false e ih = let l = ltb-false k n e in let q : k ≡ n = omega arith in rw q here
 
@@ -71,12 +74,14 @@ no-field (f ∷ fs) t k h =
     rw (z, and-false) (no-field fs (and-right (ltb (f .0) 32) (below32 fs) t) k h)
 
 -- one law for every kind: the three tests compute at a list of fields
-module _ (fs : List (ℕ × ℕ)) (agree : T (agrees fs 32)) (fields : T (below32 fs)) (mask : T (ltb (maskOf fs) (2 ^ 32))) where
+module _ (fs : List (ℕ × ℕ)) (agree : T (agrees fs 32)) (fields : T (below32 fs))
+    (mask : T (ltb (maskOf fs) (2 ^ 32))) where
   mask-off : (k : ℕ) → inField fs k ≡ false → bit (maskOf fs) k ≡ 0
   mask-off k z = go (ltb k 32) refl
     where
       go : (b : Bool) → ltb k 32 ≡ b → bit (maskOf fs) k ≡ 0
-      go true e = let n = eqb-false (bit (maskOf fs) k) 1 (sym (agree-at fs 32 agree k (ltb-true k 32 e)) ∙ z) in omega arith
+      go true e =
+          let n = eqb-false (bit (maskOf fs) k) 1 (sym (agree-at fs 32 agree k (ltb-true k 32 e)) ∙ z) in omega arith
       go false e = ap (λ (x : ℕ). x % 2) (div-eq-of-lt (lt-of-lt-of-le (lit< mask) (pow-mono (ltb-false k 32 e))))
 
   rest-off : (k : ℕ) → bit (maskOf fs) k ≡ 0 → inField fs k ≡ false

@@ -18,7 +18,8 @@ better rank (somebody m) n = pick (ltb (rank n) (rank m)) (somebody n) (somebody
 -- the best candidate below n
 unfoldable pub bestBelow : (ℕ → Bool) → (ℕ → ℕ) → ℕ → Best
 bestBelow candidate rank zero = nobody
-bestBelow candidate rank (suc n) = pick (candidate n) (better rank (bestBelow candidate rank n) n) (bestBelow candidate rank n)
+bestBelow candidate rank (suc n) =
+    pick (candidate n) (better rank (bestBelow candidate rank n) n) (bestBelow candidate rank n)
 
 -- b is as good as k: of a smaller rank, or of the same and no higher number
 abbrev pub AsGood : (ℕ → ℕ) → ℕ → ℕ → Type 0

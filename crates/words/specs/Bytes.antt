@@ -9,7 +9,8 @@ byteOf w j = w / 2 ^ (8 * j) % 256
 
 -- word k of the data: a byte that is not there is 0
 unfoldable pub wordOf : List ℕ → ℕ → ℕ
-wordOf d k = getD d (4 * k) 0 + getD d (4 * k + 1) 0 * 2 ^ 8 + getD d (4 * k + 2) 0 * 2 ^ 16 + getD d (4 * k + 3) 0 * 2 ^ 24
+wordOf d k =
+    getD d (4 * k) 0 + getD d (4 * k + 1) 0 * 2 ^ 8 + getD d (4 * k + 2) 0 * 2 ^ 16 + getD d (4 * k + 3) 0 * 2 ^ 24
 
 -- byte i of the words from word at on
 unfoldable pub byteIn : List ℕ → ℕ → ℕ → ℕ

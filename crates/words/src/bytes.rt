@@ -25,8 +25,7 @@ fn word_of(bytes: &[u8], k: usize) -> u32
         + byte_at(bytes, i + 3) * 0x100_0000
 }
 
-// Writes the first n words of the data from a word on: a byte that is not there is 0, and those past the n words are
-// dropped.
+// Writes the first n words of the data from a word on: a byte that is not there is 0, and those past them are dropped.
 pub fn store(mem: &mut [u32], at: WordAddress, n: usize, bytes: &[u8])
     requires { ⌜ (at .0 + n ≤ length (now mem)) × (n < 2 ^ 32) ⌝ }
     ensures { λ _. ⌜ now (mem .exit) ≡ splice (now (mem .entry)) (at .0) (run (wordOf (now (bytes .entry))) 0 n) ⌝ }

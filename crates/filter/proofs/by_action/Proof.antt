@@ -1,3 +1,4 @@
+-- One law for each action.
 use Rattle.filter.proofs.Ways.{actions}
 use borrow.Author.Needs.{needs}
 use Rattle.filter.proofs.by_action.Statement.{statement}

@@ -1,3 +1,4 @@
+-- One law for each of the three ways; the list of the kind lies in the memory.
 use Rattle.filter.proofs.Turns.{list-fits}
 use Rattle.filter.proofs.Ways.{ways}
 use borrow.Author.Needs.{needs}

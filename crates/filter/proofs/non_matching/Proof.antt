@@ -1,3 +1,4 @@
+-- One law for each kind of frame.
 use Rattle.filter.proofs.Ways.{globals}
 use borrow.Author.Needs.{needs}
 use Rattle.filter.proofs.non_matching.Statement.{statement}

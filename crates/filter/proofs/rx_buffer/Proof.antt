@@ -1,3 +1,4 @@
+-- One law for each of the four cases, in the order of the tests.
 use native.Mathlib.Omega.{arith}
 use Rattle.filter.proofs.Ways.{buffer-misfiled, buffers}
 use borrow.Author.Needs.{needs}

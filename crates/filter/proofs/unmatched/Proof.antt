@@ -1,3 +1,4 @@
+-- One law for each value of the field.
 use Rattle.filter.proofs.Ways.{unmatched-0, unmatched-1, unmatched-out}
 use borrow.Author.Needs.{needs}
 use Rattle.filter.proofs.unmatched.Statement.{statement}

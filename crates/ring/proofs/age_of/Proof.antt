@@ -1,3 +1,4 @@
+-- The sum less the oldest place is below two turns.
 use Rattle.ring.specs.Rings.{age}
 use borrow.Author.Needs.{needs}
 use Rattle.ring.proofs.age_of.Statement.{statement}

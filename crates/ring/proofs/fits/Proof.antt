@@ -1,3 +1,4 @@
+-- The code puts the larger of 1 and the size for it.
 use Rattle.ring.proofs.Fitness.{fits-tested}
 use borrow.Author.Needs.{needs}
 use Rattle.ring.proofs.fits.Statement.{statement}

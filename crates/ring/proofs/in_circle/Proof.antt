@@ -1,3 +1,4 @@
+-- Below two turns, the remainder is the number or one turn less.
 use Rattle.ring.proofs.Circle.{within, turned}
 use borrow.Author.Needs.{needs}
 use Rattle.ring.proofs.in_circle.Statement.{statement}

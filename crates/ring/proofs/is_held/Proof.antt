@@ -1,3 +1,4 @@
+-- No place past the size is held; of the others, those of a smaller age than the fill.
 use Rattle.ring.proofs.Holding.{past-not-held, held-tested}
 use borrow.Author.Needs.{needs}
 use Rattle.ring.proofs.is_held.Statement.{statement}

@@ -1,3 +1,4 @@
+-- The two fields of the new ring are what the call ensures and what was.
 use borrow.Author.Needs.{needs}
 use Rattle.ring.proofs.overwrite.Statement.{statement}
 use Rattle.ring.proofs.overwrite.Tie as tie

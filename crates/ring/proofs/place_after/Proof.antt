@@ -1,3 +1,4 @@
+-- Two places of the circle add up to less than two turns.
 use Rattle.ring.specs.Rings.{placeAfter}
 use borrow.Author.Needs.{needs}
 use Rattle.ring.proofs.place_after.Statement.{statement}

@@ -1,3 +1,4 @@
+-- A held place is below the size, and fewer places after the oldest than are held.
 use native.Mathlib.Omega.{arith}
 use Rattle.ring.proofs.Holding.{held-inside, held-age}
 use borrow.Author.Needs.{needs}

@@ -1,3 +1,4 @@
+-- Each field is a division and a remainder; a division by 1 goes.
 use native.Mathlib.Nat.{div-one}
 use Rattle.filter.proofs.filters.decode11.Statement.{statement}
 use Rattle.filter.proofs.filters.decode11.Tie as tie

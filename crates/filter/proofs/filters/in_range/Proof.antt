@@ -1,3 +1,4 @@
+-- The test is the code.
 use mathlib.Core.Path.{refl}
 use Rattle.filter.proofs.filters.in_range.Statement.{statement}
 use Rattle.filter.proofs.filters.in_range.Tie as tie

@@ -1,3 +1,4 @@
+-- One law each for action 0, action 7 and the others.
 use Rattle.filter.proofs.Tests.{tests}
 use borrow.Author.Needs.{needs}
 use Rattle.filter.proofs.filters.matches.Statement.{statement}

@@ -1,3 +1,4 @@
+-- One law for each kind of identifier.
 use Rattle.filter.proofs.Tests.{seens}
 use borrow.Author.Needs.{needs}
 use Rattle.filter.proofs.filters.seen_id.Statement.{statement}

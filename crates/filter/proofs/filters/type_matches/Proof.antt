@@ -1,3 +1,4 @@
+-- One law for each type.
 use Rattle.filter.proofs.Tests.{types}
 use borrow.Author.Needs.{needs}
 use Rattle.filter.proofs.filters.type_matches.Statement.{statement}

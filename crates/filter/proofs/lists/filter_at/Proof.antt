@@ -1,3 +1,4 @@
+-- One law for each kind of list, and one that its words lie in the memory.
 use Rattle.filter.proofs.Turns.{elements}
 use borrow.Author.Needs.{needs}
 use Rattle.filter.proofs.lists.filter_at.Statement.{statement}

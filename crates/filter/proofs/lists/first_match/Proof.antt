@@ -1,3 +1,4 @@
+-- The first match of the whole list is the first of what is left of it.
 use Prim.Native.Nat.{_≤_, _-_}
 use mathlib.Core.Path.{_≡_}
 use Rattle.filter.proofs.Turns.{Left, turns}

@@ -1,3 +1,4 @@
+-- One law for each kind of list.
 use Rattle.filter.proofs.Turns.{listings}
 use borrow.Author.Needs.{needs}
 use Rattle.filter.proofs.lists.list_of.Statement.{statement}

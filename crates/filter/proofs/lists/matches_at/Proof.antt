@@ -1,3 +1,4 @@
+-- The element that is tested is the one at the place.
 use Rattle.filter.proofs.Turns.{matched-at}
 use borrow.Author.Needs.{needs}
 use Rattle.filter.proofs.lists.matches_at.Statement.{statement}

@@ -1,3 +1,4 @@
+-- The search that is left from section i on is the whole search.
 use Prim.Native.Nat.{_≤_, _-_}
 use mathlib.Core.Path.{_≡_, refl}
 use lib.ListN.{length}
@@ -18,29 +19,8 @@ abbrev μ-loop : tie.MeasureT-loop
 loop-holds : tie.Need-loop-holds Inv-loop μ-loop
 loop-holds c = (search needs, search needs, refl)
 
-mul-end-of : tie.Need-mul-end-of Inv-loop μ-loop
-mul-end-of c = search needs
-
-array-copy-out-end-of : tie.Need-array-copy-out-end-of Inv-loop μ-loop
-array-copy-out-end-of c = search needs
-
-end-of-requires : tie.Need-end-of-requires Inv-loop μ-loop
-end-of-requires c κs = search needs
-
-returns : tie.Need-returns Inv-loop μ-loop
-returns c = search (past-found, needs)
-
-add-i : tie.Need-add-i Inv-loop μ-loop
-add-i c = search needs
-
-loop-less : tie.Need-loop-less Inv-loop μ-loop
-loop-less c = search needs
-
 loop-again : tie.Need-loop-again Inv-loop μ-loop
 loop-again c = (search needs, search needs, search (past-on, needs))
-
-returns-2 : tie.Need-returns-2 Inv-loop μ-loop
-returns-2 c = search (look-done, needs)
 
 pub first-past-spec : {M : Type 1} → statement M
 first-past-spec =
@@ -49,11 +29,8 @@ first-past-spec =
     Inv-loop
     μ-loop
     loop-holds
-    mul-end-of
-    array-copy-out-end-of
-    end-of-requires
-    returns
-    add-i
-    loop-less
+    (λ c. search needs) (λ c. search needs) (λ c κs. search needs)
+    (λ c. search (past-found, needs))
+    (λ c. search needs) (λ c. search needs)
     loop-again
-    returns-2)
+    (λ c. search (look-done, needs)))

@@ -1,3 +1,4 @@
+-- The search that is left from flag i on is the whole search.
 use Prim.Native.Nat.{_≤_, _-_}
 use mathlib.Core.Path.{_≡_, refl}
 use mathlib.Core.Bool.{false}
@@ -9,7 +10,9 @@ use Rattle.layout.proofs.check.first_true.Statement.{statement}
 use Rattle.layout.proofs.check.first_true.Tie as tie
 
 abbrev Inv-loop : tie.InvT-loop
-Inv-loop flags i₀ i = (length flags ≡ 7) × (i ≤ 7) × (leastFrom (λ k. getD flags k false) 0 7 ≡ leastFrom (λ k. getD flags k false) i (7 - i))
+Inv-loop flags i₀ i =
+    (length flags ≡ 7) × (i ≤ 7)
+    × (leastFrom (λ k. getD flags k false) 0 7 ≡ leastFrom (λ k. getD flags k false) i (7 - i))
 
 abbrev μ-loop : tie.MeasureT-loop
 μ-loop flags i₀ i = 7 - i
@@ -17,23 +20,8 @@ abbrev μ-loop : tie.MeasureT-loop
 loop-holds : tie.Need-loop-holds Inv-loop μ-loop
 loop-holds c = (search needs, search needs, refl)
 
-array-read-if1 : tie.Need-array-read-if1 Inv-loop μ-loop
-array-read-if1 c = search needs
-
-returns : tie.Need-returns Inv-loop μ-loop
-returns c = search (look-found, needs)
-
-add-i : tie.Need-add-i Inv-loop μ-loop
-add-i c = search needs
-
-loop-less : tie.Need-loop-less Inv-loop μ-loop
-loop-less c = search needs
-
 loop-again : tie.Need-loop-again Inv-loop μ-loop
 loop-again c = (search needs, search needs, search (look-on, needs))
-
-returns-2 : tie.Need-returns-2 Inv-loop μ-loop
-returns-2 c = search (look-done, needs)
 
 pub first-true-spec : {M : Type 1} → statement M
 first-true-spec =
@@ -42,9 +30,8 @@ first-true-spec =
     Inv-loop
     μ-loop
     loop-holds
-    array-read-if1
-    returns
-    add-i
-    loop-less
+    (λ c. search needs)
+    (λ c. search (look-found, needs))
+    (λ c. search needs) (λ c. search needs)
     loop-again
-    returns-2)
+    (λ c. search (look-done, needs)))

@@ -1,3 +1,4 @@
+-- The definition is the code, with the complement as a difference.
 use mathlib.Core.Path.{refl}
 use Rattle.words.specs.Bits.{withoutMask}
 use Rattle.words.proofs.bits32.clear_mask.Statement.{statement}

@@ -1,3 +1,4 @@
+-- A word below 2 ^ 32 has at most 32 set bits.
 use mathlib.Core.Path.{refl}
 use lib.Count.{ones-le}
 use Rattle.words.proofs.bits32.count_set.Statement.{statement}

@@ -1,3 +1,4 @@
+-- The trailing zeros of the complement are the trailing ones: one law over any width.
 use Rattle.words.proofs.Bits.{lowest}
 use Rattle.words.proofs.bits32.lowest_clear.Statement.{statement}
 use Rattle.words.proofs.bits32.lowest_clear.Tie as tie

@@ -1,3 +1,4 @@
+-- An element of a list of bytes is below 256, and past its end the list gives 0.
 use denote.Ref.{now}
 use lib.ListN.{List·getD-eq-default}
 use mathlib.Core.Path.{refl, sym}

@@ -1,3 +1,4 @@
+-- The four bytes add up to the word, and no sum wraps, since each is below 256.
 use Rattle.words.specs.Bytes.{wordOf}
 use borrow.Author.Needs.{needs}
 use Rattle.words.proofs.bytes.word_of.Statement.{statement}
@@ -5,7 +6,13 @@ use Rattle.words.proofs.bytes.word_of.Tie as tie
 
 returns : tie.Need-returns
 unfolding wordOf
-returns c = simp (c .byte-at4 .ensures .0, c .before .byte-at3 .ensures .0, c .before .before .byte-at2 .ensures .0, c .before .before .before .byte-at .ensures .0)
+returns c =
+    simp (
+      c .byte-at4 .ensures .0,
+      c .before .byte-at3 .ensures .0,
+      c .before .before .byte-at2 .ensures .0,
+      c .before .before .before .byte-at .ensures .0,
+    )
 
 pub word-of-spec : {M : Type 1} → statement M
 word-of-spec =

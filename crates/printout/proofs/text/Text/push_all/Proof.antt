@@ -1,3 +1,4 @@
+-- Kept in the loop: the text is what it was and the first i bytes.
 use Prim.Native.Nat.{_≤_, _-_, _+_}
 use mathlib.Core.Path.{_≡_}
 use mathlib.Core.List.{_++_}
@@ -20,9 +21,6 @@ loop-holds c = (search needs, none-pushed _, search needs)
 loop-again : tie.Need-loop-again Inv-loop μ-loop
 loop-again c = (search needs, search (one-more-pushed, needs), search needs)
 
-returns : tie.Need-returns Inv-loop μ-loop
-returns c = (search (all-pushed, needs), search needs)
-
 pub push-all-spec : {M : Type 1} → statement M
 push-all-spec =
     tie.close
@@ -32,4 +30,4 @@ push-all-spec =
     loop-holds
     (λ c. search needs) (λ c κs. search needs) (λ c. search needs) (λ c. search needs)
     loop-again
-    returns)
+    (λ c. (search (all-pushed, needs), search needs)))

@@ -1,10 +1,8 @@
+-- Six pushes one after another, put together by one law; no number has over 20 digits.
 use Rattle.printout.proofs.Pushed.{row-pushed}
 use borrow.Author.Needs.{needs}
 use Rattle.printout.proofs.text.Text.push_row.Statement.{statement}
 use Rattle.printout.proofs.text.Text.push_row.Tie as tie
-
-returns : tie.Need-returns
-returns c = (search (row-pushed, needs), search needs)
 
 pub push-row-spec : {M : Type 1} → statement M
 push-row-spec =
@@ -12,4 +10,4 @@ push-row-spec =
     (tie.spec
     (λ c κs. search needs) (λ c κs. search needs) (λ c κs. search needs) (λ c κs. search needs) (λ c κs. search needs)
     (λ c κs. search needs)
-    returns)
+    (λ c. (search (row-pushed, needs), search needs)))

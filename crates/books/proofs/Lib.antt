@@ -1,0 +1,12 @@
+pub mod Lists
+pub mod Balances
+pub mod Holding
+pub mod Turns
+pub mod Arrivals
+pub mod Places
+pub mod Releases
+pub mod Seen
+pub mod Runs
+pub mod Requests
+pub mod Buffers
+pub mod Circles
