@@ -90,8 +90,7 @@ module _ (w : World) where
       asks : (b : ℕ) → length out ≡ 64 → Names (step w (askChoice passive out) .says) b ↔ GoesFirst w b
       asks b e =
           let n = names-it (choice (w .state) (w .memory)) b in
-          let q = asked e in
-          (
+          let q = asked e in (
             λ x. chosen-first b .0 (n .0 (subst (λ (a : Says Next). Names a b) q x)),
             λ x. subst (λ (a : Says Next). Names a b) (sym q) (n .1 (chosen-first b .1 x)),
           )

@@ -2,7 +2,7 @@
 -- Assumes nothing.
 use Prim.Native.Nat.{ℕ, _<_}
 use mathlib.Core.Path.{_≡_, refl, sym, ap, subst, _∙_}
-use mathlib.Core.Bool.{Bool, true, false, not, _||_, or-true}
+use mathlib.Core.Bool.{Bool, true, false, not, _||_}
 use mathlib.Core.List.{List, []}
 use mathlib.Core.Logic.{_⊎_, inl, inr}
 use borrow.Author.Tests.{ltb-true, ltb-false, lt-ltb, le-ltb, eq-eqb, ne-eqb}
@@ -15,7 +15,7 @@ use Rattle.words.specs.Fields.{bits}
 use Rattle.words.proofs.Choices.{pick-first, pick-second}
 use Rattle.ring.specs.Rings.{putPlace}
 use Rattle.ring.specs.declared.Ring.{Ring}
-use Rattle.shape.specs.Calls.{Says, answers}
+use Rattle.shape.specs.Calls.{answers}
 use Rattle.shape.proofs.Calls.{call-answers}
 use Rattle.places.specs.Slots.{takeRule}
 use Rattle.places.specs.declared.Slot.{Slot}
@@ -38,7 +38,8 @@ use Rattle.engine.specs.States.{fifoRing}
 use Rattle.engine.specs.declared.state.State.{State}
 use Rattle.engine.proofs.Keeps.{kept-slot}
 use Rattle.receiving.specs.Fifos.{keeperOf}
-use Rattle.receiving.specs.Receive.{Fate, slotSays, receiveRefusals, intoFifo, intoBuffer, intoNothing, goesTo, receives}
+use Rattle.receiving.specs.Receive.{Fate, slotSays, receiveRefusals, intoFifo, intoBuffer, intoNothing, goesTo}
+use Rattle.receiving.specs.Receive.{receives}
 use Rattle.handler.specs.Calls.{receive, step}
 use Rattle.handler.specs.Demand2.{outAtOnce, listFor, matchIn, FifoTakes, Becomes, Filtered}
 
@@ -72,13 +73,11 @@ module _ (q : Ring) (size : ℕ) (over : Bool) where
     no-room = le-ltb (q .fill) size (omega arith)
 
     by-mode : (b : Bool) → over ≡ b → (eqb size 0 || not over) ≡ not b
-    by-mode b o =
-        ap (λ (x : Bool). x || not over) (ne-eqb size 0 (λ z. omega arith)) ∙ ap not o
+    by-mode b o = ap (λ (x : Bool). x || not over) (ne-eqb size 0 (λ z. omega arith)) ∙ ap not o
 
     taken-blocked : over ≡ false → takeRule size over q .slot ≡ Lost
     unfolding takeRule
-    taken-blocked o =
-        ap (λ (t : Taken). t .slot) (pick-second _ _ no-room ∙ pick-first _ _ (by-mode false o))
+    taken-blocked o = ap (λ (t : Taken). t .slot) (pick-second _ _ no-room ∙ pick-first _ _ (by-mode false o))
 
     taken-over : over ≡ true → takeRule size over q .slot ≡ At (q .oldest)
     unfolding takeRule

@@ -25,7 +25,6 @@ use Rattle.places.specs.declared.Slot.the-variants.{At, Lost}
 use Rattle.places.specs.declared.Taken.{Taken}
 use Rattle.places.proofs.Takes.{take-cases, all-held}
 use Rattle.registers.specs.Fields.{fifoCode, fifoSize, overwrites, buffers, bufferCode}
-use Rattle.registers.specs.declared.Registers.{Registers}
 use Rattle.registers.proofs.Fifos.{code-lt}
 use Rattle.frame.specs.Malformed.{WellFormed}
 use Rattle.frame.specs.Sizes.{elementBytes, elementWords}
@@ -55,7 +54,7 @@ use Rattle.taking.specs.Reading.{reads}
 use Rattle.taking.proofs.Fits.{ring-put}
 use Rattle.receiving.specs.Fifos.{keeperOf}
 use Rattle.receiving.specs.Promises.{namedBy, OneElement, HoldsFrame}
-use Rattle.receiving.specs.Receive.{Fate, storedBuffer, arrival, slotSays, receiveRefusals, intoFifo, intoBuffer}
+use Rattle.receiving.specs.Receive.{Fate, arrival, slotSays, receiveRefusals, intoFifo, intoBuffer}
 use Rattle.receiving.specs.Receive.{intoNothing, receives}
 use Rattle.receiving.proofs.Elements.{held-there, stored-is-there, receive-writes-one-element}
 use Rattle.receiving.proofs.Judgements.{ReceiveOpen, receive-open}
@@ -81,9 +80,9 @@ taken-held size over q fit p =
 
 -- ---- a read of an element that holds an arrival
 
-module _ (w : World) (area : Area) (place : ℕ) (a : Arrival) (d : List ℕ) (out : List ℕ) (index : indexOf (a .matched) < 128)
-    (formed : WellFormed (a .frame) (length d)) (short : a .time < 2 ^ 16) (small : AreBytes d) (code : ℕ) (l : code < 8)
-    (size : area .each ≡ elementWords code)
+module _ (w : World) (area : Area) (place : ℕ) (a : Arrival) (d out : List ℕ) (index : indexOf (a .matched) < 128)
+    (formed : WellFormed (a .frame) (length d)) (short : a .time < 2 ^ 16) (small : AreBytes d) (code : ℕ)
+    (l : code < 8) (size : area .each ≡ elementWords code)
     (there : wordsAt area place (w .memory) ≡ rxElement a d (dataWords area)) where
   abbrev at : ℕ
   at = placeIn area place
@@ -99,7 +98,7 @@ module _ (w : World) (area : Area) (place : ℕ) (a : Arrival) (d : List ℕ) (o
       rx-back (w .memory) at n a d
       (held-there (w .memory) a d area place (omega (arith, words-least code l)) there) index formed short small
 
-  header-back : _≡_ {A = RxRead} (rxRead (w .memory) at n) (record { header = arrivalHeader a; count = min (length d) (4 * n) })
+  header-back : rxRead (w .memory) at n ≡ record { header = arrivalHeader a; count = min (length d) (4 * n) }
   unfolding rxRead readCount rxHeaderIn
   header-back =
       ap (λ (h : RxHeader). record { header = h; count = min (lengthOf (h .frame)) (4 * n) }) (read-back .header)
@@ -139,8 +138,8 @@ module _ (s : State) (r : Record) (mem : List ℕ) (a : Arrival) (d out : List �
       let area = fifoArea (s .regs) fifo in
       call-done w out (fifoRefusals w fifo place ++ outputRefusals (length out)) (reads w area place out)
       (fifo-free fifo place l h)
-      ∙ element-back w area place a d out index formed short small (fifoCode (s .regs) fifo) (code-lt (s .regs) fifo) refl
-      there
+      ∙ element-back w area place a d out index formed short small (fifoCode (s .regs) fifo)
+      (code-lt (s .regs) fifo) refl there
 
   buffer-free : (b : ℕ) → b < buffers (s .regs) → isSet (s .newdata) b ≡ true
       → first (bufferRefusals w b ++ outputRefusals (length out)) ≡ allowed
@@ -199,21 +198,23 @@ module _ (w : World) (f : Frame) (d : List ℕ) (time : ℕ) (out : List ℕ) (s
   fifo-back k priority m l i there fit =
       let keeper = keeperOf (s .regs) k in
       let q = fifoRing s k in
-      slot-back k m l i (keepRule keeper q (w .recorded) .slot) (keepRule keeper q (w .recorded) .ring) _ _ (kept-held k)
-      there fit
+      slot-back k m l i (keepRule keeper q (w .recorded) .slot) (keepRule keeper q (w .recorded) .ring) _ _
+      (kept-held k) there fit
 
   buffer-back : (b i : ℕ) → b < buffers (s .regs) → i < 128 → Back (intoBuffer w b (arrival f time (Filter i)) d)
   unfolding intoBuffer
   buffer-back b i l x there fit =
-      buffer-read (withNewData s (withBit (s .newdata) b)) _ _ (arrival f time (Filter i)) d out x formed short small fit
-      room b l (eq-eqb _ 1 (set-same (s .newdata) b)) there
+      buffer-read (withNewData s (withBit (s .newdata) b)) _ _ (arrival f time (Filter i)) d out x formed short small
+      fit room b l (eq-eqb _ 1 (set-same (s .newdata) b)) there
 
   nowhere-back : (why : ℕ) (m : Matched) → Back (intoNothing w why (arrival f time m))
   unfolding intoNothing
   nowhere-back why m there fit = tt
 
   effect-back : Back (receives w f d time)
-  effect-back = receives-cases w f d time passed Back fifo-back (λ b i l z x. buffer-back b i l x) (λ why m x. nowhere-back why m)
+  effect-back =
+      receives-cases w f d time passed Back fifo-back
+      (λ b i l z x. buffer-back b i l x) (λ why m x. nowhere-back why m)
 
 pub memory-told : (w : World) (f : Frame) (d : List ℕ) (time : ℕ) (fate : Fate)
     → step w (receive f d time) .says ≡ answers fate → time < 2 ^ 16 → AreBytes d
@@ -222,7 +223,8 @@ memory-told w f d time fate e short small =
     let g = w .state .regs in
     let p = call-answers w [] (receiveRefusals w f (length d)) (receives w f d time) fate e in
     let there =
-    subst (λ (o : Outcome Fate). HoldsFrame g f d time (o .world .memory) (o .says)) (p .1) (stored-is-there w f d time) in
+    subst (λ (o : Outcome Fate). HoldsFrame g f d time (o .world .memory) (o .says)) (p .1)
+    (stored-is-there w f d time) in
     let same : answers (receives w f d time .answer) ≡ answers fate =
     sym (ap (λ (o : Outcome Fate). o .says) (p .1)) ∙ e in
     let it : receives w f d time .answer ≡ fate = cc in

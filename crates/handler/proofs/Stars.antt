@@ -39,5 +39,7 @@ unfolding call verdict leastFrom partner section unfit fits held age sharedUnfit
     intoFifo intoBuffer intoNothing keepRule takeRule fifoWord fifoCode fifoRing placeAfter
     part splice run element word0 formBits rxWord1 txWord1 wordOf rank
     dedicatedRefusals requests written withBit withoutMask
-    choiceRefusals outputRefusals chooses choice bestBelow isCandidate frameIn txHeaderIn asSent sentFrom sentByte byteIn
-stars-hold = (refl, (refl, (refl, (refl, (refl, (refl, (refl, (refl, (refl, (refl, (refl, (refl, (refl, (refl, tt))))))))))))))
+    choiceRefusals outputRefusals chooses choice bestBelow isCandidate frameIn txHeaderIn asSent
+    sentFrom sentByte byteIn
+stars-hold =
+    (refl, (refl, (refl, (refl, (refl, (refl, (refl, (refl, (refl, (refl, (refl, (refl, (refl, (refl, tt))))))))))))))

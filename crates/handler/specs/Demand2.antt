@@ -1,5 +1,5 @@
--- Demand 2: the manual decides. Which layouts are accepted, where a received frame goes and what it changes, which frame is sent. Statements only, over
--- the calls as `step` has them.
+-- Demand 2: the manual decides. Which layouts are accepted, where a received frame goes and what it changes, which
+-- frame is sent. Statements only, over the calls as `step` has them.
 use Prim.Native.Nat.{ℕ, _+_, _*_, _^_, _<_, _≤_, min}
 use mathlib.Core.Path.{_≡_}
 use mathlib.Core.Bool.{Bool, true, false, _&&_}
@@ -38,7 +38,8 @@ use Rattle.choosing.specs.Buffers.{headerOf}
 use Rattle.choosing.specs.Choosing.{Next, none, send}
 use Rattle.choosing.specs.Promises.{Candidate, Waits}
 use Rattle.overview.specs.declared.Overview.{Overview}
-use Rattle.handler.specs.Calls.{start, receive, readFifo, readBuffer, askChoice, reportSent, reportStatus, step}
+use Rattle.handler.specs.Calls.{start, receive, readFifo, readBuffer, askChoice, reportSent, reportStatus}
+use Rattle.handler.specs.Calls.{step}
 
 -- ---- layouts: accepted exactly where every section has a legal size, lies in the memory and shares no word with another
 
@@ -57,7 +58,8 @@ pub record Starts (w : World) (g : Registers) : Type 0 where
   pub past : (i : ℕ) → step w (start g) .says ≡ refuses (names 14 i 7) → FirstPast g (length (w .memory)) i
   pub pair : (i j : ℕ) → step w (start g) .says ≡ refuses (names 15 i j) → FirstPair g i j
 
--- ---- received frames: the first filter that matches decides, else the no-match rule; of the memory that one element changes and nothing else
+-- ---- received frames: the first filter that matches decides, else the no-match rule; of the memory that one element
+-- changes and nothing else
 
 -- a frame is out before the search: it is remote, and RRFS or RRFE is set
 abbrev pub outAtOnce : World → Frame → Bool
@@ -91,8 +93,8 @@ Becomes s (toBuffer buffer i) fate = fate ≡ storedBuffer buffer i
 Becomes s (discarded why m) fate = fate ≡ dropped why m
 
 pub record Filtered (w : World) (f : Frame) (fate : Fate) : Type 0 where
-  -- element i is named exactly where it matches and none below it does, and none is named exactly where none matches; a frame that is out at once
-  -- is not searched for
+  -- element i is named exactly where it matches and none below it does, and none is named exactly where none matches;
+  -- a frame that is out at once is not searched for
   pub found : (i : ℕ)
       → (matchIn fate ≡ Filter i) ↔ ((outAtOnce w f ≡ false) × FirstIs (w .memory) (listFor w f) (f .id) i)
   pub unfound : (matchIn fate ≡ Nothing) ↔ ((outAtOnce w f ≡ true) ⊎ NoneMatches (w .memory) (listFor w f) (f .id))
@@ -123,12 +125,12 @@ ReadsBack g last f d time out (dropped why m) = Unit {0}
 
 pub record InMemory (w last : World) (f : Frame) (d : List ℕ) (time : ℕ) (fate : Fate) : Type 0 where
   pub back : (out : List ℕ) → length out ≡ 64 → ReadsBack (w .state .regs) last f d time out fate
-  -- of all words only those of the named element can have changed, and none where none is named; it is of FIFO 0, FIFO 1 or the Rx buffers,
-  -- sections 2 to 4
+  -- of all words only those of the named element can have changed, and none where none is named; it is of FIFO 0,
+  -- FIFO 1 or the Rx buffers, sections 2 to 4
   pub one : OneElement (w .state .regs) (storedIn (w .state .regs) fate) (w .memory) (last .memory)
 
--- ---- the frame sent next: of the pending dedicated buffers, with the shared FIFO's oldest or every pending queue buffer, the one that wins
--- arbitration
+-- ---- the frame sent next: of the pending dedicated buffers, with the shared FIFO's oldest or every pending queue buffer,
+-- the one that wins arbitration
 
 -- the bits with which the frame in a Tx buffer goes into arbitration
 abbrev pub bitsIn : World → ℕ → List ℕ
