@@ -41,7 +41,8 @@ use Rattle.overview.specs.declared.Overview.{Overview}
 use Rattle.handler.specs.Calls.{start, receive, readFifo, readBuffer, askChoice, reportSent, reportStatus}
 use Rattle.handler.specs.Calls.{step}
 
--- ---- layouts: accepted exactly where every section has a legal size, lies in the memory and shares no word with another
+-- ---- layouts: accepted exactly where every section has a legal size, lies in the memory and shares no word with
+-- another
 
 -- a first word and a number of words are exactly the words of section i; one without words is said to start at 0
 pub record Reported (g : Registers) (i first count : ℕ) : Type 0 where
@@ -129,8 +130,8 @@ pub record InMemory (w last : World) (f : Frame) (d : List ℕ) (time : ℕ) (fa
   -- FIFO 1 or the Rx buffers, sections 2 to 4
   pub one : OneElement (w .state .regs) (storedIn (w .state .regs) fate) (w .memory) (last .memory)
 
--- ---- the frame sent next: of the pending dedicated buffers, with the shared FIFO's oldest or every pending queue buffer,
--- the one that wins arbitration
+-- ---- the frame sent next: of the pending dedicated buffers, with the shared FIFO's oldest or every pending queue
+-- buffer, the one that wins arbitration
 
 -- the bits with which the frame in a Tx buffer goes into arbitration
 abbrev pub bitsIn : World → ℕ → List ℕ

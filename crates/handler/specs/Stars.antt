@@ -74,8 +74,8 @@ abbrev pub receiveB : ℕ → Says Fate
 receiveB id =
     step (startedWith (caseA 0x00040260 0x06020428) filtersB) (receive (classic false false id) [] 0) .says
 
--- ---- elements of a size code: one in FIFO 0 from word 8 on, one dedicated Tx buffer from word 32 on, three filters; FD
--- and rate switch are on
+-- ---- elements of a size code: one in FIFO 0 from word 8 on, one dedicated Tx buffer from word 32 on, three filters;
+-- FD and rate switch are on
 
 abbrev pub ofSize : ℕ → Registers
 ofSize code = record {
