@@ -122,10 +122,11 @@ choice-looks-at-tx-buffers w other passive out sections six same =
     call-alike sections w other out same (choiceRefusals w ++ thirty) (choiceRefusals (withMemory w other) ++ thirty)
     (chooses w passive out) (chooses (withMemory w other) passive out)
     (ap (λ (n : ℕ). first (20 when unfit s (w .recorded) n ∷ thirty)) (same .size))
-    (λ e. record {
+    (λ e. let h = sound-of s (w .recorded) (length mem) (choice-open w out e .fit) in
+    record {
       says = ap answers (next-same s mem other tx passive);
       state = refl;
       recorded = refl;
       memory = same;
-      output = output-same s mem other tx passive (sound-of s (w .recorded) (length mem) (choice-open w out e .fit)) out;
+      output = output-same s mem other tx passive h out;
     })
