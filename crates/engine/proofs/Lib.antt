@@ -2,8 +2,10 @@ pub mod Cases
 pub mod Unfitness
 pub mod Sounds
 pub mod Parts
-pub mod Buffers
 pub mod Calls
+pub mod Memories
+pub mod Holdings
+pub mod Buffers
 pub mod Alike
 pub mod Replies
 pub mod Keeps
