@@ -95,14 +95,14 @@ module _ (w : World) (h : TxHeader) (d : List ℕ) where
       → isUnfit (requests w (w .state .shared) buffer h d .world) ≡ false
   dedicated-fit buffer e =
       let o = dedicated-open w buffer h (length d) e in
-      request-fit (w .state .shared) buffer (o .fit) (dedicated-requestable w h (length d) buffer o)
+      request-fit (w .state .shared) buffer (o .fit) (dedicated-requestable w h (length d) buffer e)
       (dedicated-sound (w .state) (length (w .memory)) (open-sound w (o .fit)) buffer (o .number))
 
   pub shared-fit : first (sharedRefusals w h (length d)) ≡ allowed
       → isUnfit (requests w (sharedAfter (w .state)) (freeBuffer (w .state)) h d .world) ≡ false
   shared-fit e =
       let o = shared-open w h (length d) e in
-      request-fit (sharedAfter (w .state)) (freeBuffer (w .state)) (o .fit) (shared-requestable w h (length d) o)
+      request-fit (sharedAfter (w .state)) (freeBuffer (w .state)) (o .fit) (shared-requestable w h (length d) e)
       (shared-sound (w .state) (length (w .memory)) (open-sound w (o .fit)) (o .number))
 
 -- ---- call 9

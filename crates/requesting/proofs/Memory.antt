@@ -26,7 +26,7 @@ use Rattle.requesting.specs.Needs.{Requestable}
 use Rattle.requesting.specs.Places.{freeBuffer, sharedAfter}
 use Rattle.requesting.specs.Promises.{StandsAlone, RequestsStand}
 use Rattle.requesting.specs.Requesting.{written, requests, dedicatedRefusals, sharedRefusals}
-use Rattle.requesting.proofs.Opens.{dedicated-open, shared-open, dedicated-requestable, shared-requestable}
+use Rattle.requesting.proofs.Opens.{dedicated-requestable, shared-requestable}
 
 module _ (mem : List ℕ) (a : Area) (buffer : ℕ) (p : HasPlace a buffer (length mem)) (h : TxHeader) (d : List ℕ) where
   -- the element has as many words as each of the area
@@ -57,14 +57,14 @@ module _ (w : World) (h : TxHeader) (d : List ℕ) where
       (requests w (w .state .shared) buffer h d .world .memory)
   dedicated-only buffer e =
       request-only (w .state .shared) buffer
-      (dedicated-requestable w h (length d) buffer (dedicated-open w buffer h (length d) e))
+      (dedicated-requestable w h (length d) buffer e)
 
   pub shared-only : first (sharedRefusals w h (length d)) ≡ allowed
       → OnlyIn (placeRange (txArea (w .state .regs)) (freeBuffer (w .state))) (w .memory)
       (requests w (sharedAfter (w .state)) (freeBuffer (w .state)) h d .world .memory)
   shared-only e =
       request-only (sharedAfter (w .state)) (freeBuffer (w .state))
-      (shared-requestable w h (length d) (shared-open w h (length d) e))
+      (shared-requestable w h (length d) e)
 
   -- where nothing is against a request, it stands in its buffer
   stands : (rows : Refusals) (ring : Ring) (buffer : ℕ)
@@ -90,8 +90,8 @@ pub requests-stand : RequestsStand
 requests-stand = record {
   dedicated = λ w buffer h d.
       stands w h d (dedicatedRefusals w buffer h (length d)) (w .state .shared) buffer
-      (λ e. dedicated-requestable w h (length d) buffer (dedicated-open w buffer h (length d) e));
+      (dedicated-requestable w h (length d) buffer);
   shared = λ w h d.
       stands w h d (sharedRefusals w h (length d)) (sharedAfter (w .state)) (freeBuffer (w .state))
-      (λ e. shared-requestable w h (length d) (shared-open w h (length d) e));
+      (shared-requestable w h (length d));
 }
