@@ -105,8 +105,8 @@ open-sound w e = sound-of (w .state) (w .recorded) (length (w .memory)) e
 
 -- a frame that is not malformed can be written to a buffer that exists
 requestable : (w : World) (buffer : ℕ) (h : TxHeader) (bytes : ℕ) → isUnfit w ≡ false
-    → malformed (h .frame) bytes ≡ false
-    → buffer < txCount (w .state .regs) → Requestable (w .state) (length (w .memory)) buffer h
+    → malformed (h .frame) bytes ≡ false → buffer < txCount (w .state .regs)
+    → Requestable (w .state) (length (w .memory)) buffer h
 requestable w buffer h bytes fit formed l =
     let sound = open-sound w fit in
     record {
@@ -115,25 +115,24 @@ requestable w buffer h bytes fit formed l =
       frame = frame-fits (h .frame) bytes formed;
     }
 
-module _ (w : World) (h : TxHeader) (bytes : ℕ) where
-  pub dedicated-requestable : (buffer : ℕ) → first (dedicatedRefusals w buffer h bytes) ≡ allowed
-      → Requestable (w .state) (length (w .memory)) buffer h
-  dedicated-requestable buffer e =
-      let o = dedicated-open w buffer h bytes e in
-      requestable w buffer h bytes (o .fit) (o .formed) (omega (arith, o .number))
+pub dedicated-requestable : (w : World) (buffer : ℕ) (h : TxHeader) (bytes : ℕ)
+    → first (dedicatedRefusals w buffer h bytes) ≡ allowed → Requestable (w .state) (length (w .memory)) buffer h
+dedicated-requestable w buffer h bytes e =
+    let o = dedicated-open w buffer h bytes e in
+    requestable w buffer h bytes (o .fit) (o .formed) (omega (arith, o .number))
 
-  pub shared-requestable : first (sharedRefusals w h bytes) ≡ allowed
-      → Requestable (w .state) (length (w .memory)) (freeBuffer (w .state)) h
-  shared-requestable e =
-      let o = shared-open w h bytes e in
-      requestable w (freeBuffer (w .state)) h bytes (o .fit) (o .formed) (omega (arith, o .number))
+pub shared-requestable : (w : World) (h : TxHeader) (bytes : ℕ) → first (sharedRefusals w h bytes) ≡ allowed
+    → Requestable (w .state) (length (w .memory)) (freeBuffer (w .state)) h
+shared-requestable w h bytes e =
+    let o = shared-open w h bytes e in
+    requestable w (freeBuffer (w .state)) h bytes (o .fit) (o .formed) (omega (arith, o .number))
 
 -- ---- the same, of what was judged
 
 module _ (s : State) (r : Record) (mem : List ℕ) (j : Judged) (y : j ≡ Allowed) where
   pub dedicated-can : (buffer : ℕ) (h : TxHeader) (len : ℕ)
       → ruled j ≡ first (dedicatedRefusals (world s r mem) buffer h len) → Requestable s (length mem) buffer h
-  dedicated-can buffer h len e = dedicated-requestable (world s r mem) h len buffer (sym e ∙ ap ruled y)
+  dedicated-can buffer h len e = dedicated-requestable (world s r mem) buffer h len (sym e ∙ ap ruled y)
 
   module _ (h : TxHeader) (len : ℕ) (e : ruled j ≡ first (sharedRefusals (world s r mem) h len)) where
     pub shared-can : (buffer : ℕ) → buffer ≡ freeBuffer s → Requestable s (length mem) buffer h

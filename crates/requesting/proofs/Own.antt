@@ -50,9 +50,7 @@ module _ (sections : Range) (w : World) (other : List ℕ)
       call-alike sections w other [] same (dedicatedRefusals w buffer h (length d))
       (dedicatedRefusals (withMemory w other) buffer h (length d)) _ _
       (simp (same .size))
-      (λ e.
-      request-alike (w .state .shared) buffer h d
-      (dedicated-requestable w h (length d) buffer e))
+      (λ e. request-alike (w .state .shared) buffer h d (dedicated-requestable w buffer h (length d) e))
 
   pub shared-alike : (h : TxHeader) (d : List ℕ)
       → Alike sections (requestShared w h d) (requestShared (withMemory w other) h d)

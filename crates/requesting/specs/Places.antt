@@ -19,15 +19,15 @@ requested s ring buffer =
     (withoutBit 32 (s .sent) buffer)
     (withoutBit 32 (s .cancelled) buffer)
 
--- of a queue, the first place after the dedicated buffers whose pending bit is clear, or their number where none is
+-- of a queue, the first place after the dedicated buffers whose pending bit is clear, or how many there are
 unfoldable pub queuePlace : ℕ → ℕ → ℕ → ℕ
 queuePlace pending dedicated shared = leastFrom (λ p. not (isSet pending (dedicated + p))) 0 shared
 
--- of a FIFO with room its put place, or its size where it is full
+-- of a FIFO, its put place, or its size where it is full
 unfoldable pub fifoPlace : Ring → ℕ → ℕ
 fifoPlace q size = pick (ltb (q .fill) size) (putPlace q size) size
 
--- the place in the shared part that a request takes, or their number where none is free
+-- the place in the shared part that a request takes, or how many there are where none is free
 unfoldable pub freePlace : State → ℕ
 freePlace s =
     pick (isQueue (s .regs))

@@ -7,8 +7,8 @@ ghost use Rattle.ring.specs.Rings.{Fit};
 ghost use Rattle.requesting.specs.Needs.{QueueFits, CanFindPlace, SharedRoom};
 ghost use Rattle.requesting.specs.Places.{queuePlace, fifoPlace, freePlace, freeBuffer, sharedAfter};
 
-// A queue's lowest-numbered buffer that is not pending, or their number: the trailing zeros of the complemented pending
-// word.
+// A queue's lowest-numbered buffer that is not pending, or how many there are: the trailing zeros of the complemented
+// pending word.
 fn queue_place(pending: u32, dedicated: u32, shared: u32) -> u32
     requires { ⌜ QueueFits pending dedicated shared ⌝ }
     ensures { λ p. ⌜ p ≡ queuePlace pending dedicated shared ⌝ }
@@ -31,7 +31,7 @@ fn fifo_place(q: Ring, size: u32) -> u32
     size
 }
 
-// The place in the shared part that a request takes, or their number where none is free.
+// The place in the shared part that a request takes, or how many there are where none is free.
 pub fn free_place(s: State) -> u32
     requires { ⌜ CanFindPlace s ⌝ }
     ensures { λ p. ⌜ p ≡ freePlace s ⌝ }
