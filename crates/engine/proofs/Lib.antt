@@ -1,8 +1,11 @@
 pub mod Cases
 pub mod Unfitness
 pub mod Sounds
-pub mod Buffers
+pub mod Parts
 pub mod Calls
+pub mod Memories
+pub mod Holdings
+pub mod Buffers
 pub mod Alike
 pub mod Replies
 pub mod Keeps

@@ -5,5 +5,6 @@ pub mod Buffers
 pub mod Flags
 pub mod Keeping
 pub mod Calls
+pub mod Holding
 pub mod Needs
 pub mod Promises
