@@ -1,5 +1,9 @@
 pub mod Exact
 pub mod Meanings
+pub mod StillFit
+pub mod Parts
+pub mod Others
+pub mod Tightness
 pub mod Demand2Layouts
 pub mod Demand2Frames
 pub mod Demand2Memory
