@@ -13,6 +13,7 @@ use Rattle.frame.specs.declared.Frame.{Frame}
 use Rattle.engine.specs.declared.state.State.{State}
 use Rattle.c_words.specs.Words.{word, yesNo, saysYes, isYesNo}
 use Rattle.c_words.specs.States.{plainRegisters, packState, unpackState, packRecord, unpackRecord}
+use Rattle.c_words.specs.Needs.{StateWords}
 use Rattle.c_words.specs.Frames.{plainFrame, packFrame, unpackFrame}
 use Rattle.c_words.specs.Promises.{ValuesComeBack, WordsComeBack, RegistersComeFirst}
 use Rattle.c_words.proofs.Spelled.{spelled}
@@ -81,7 +82,7 @@ frame-back f = λ i. record {
 }
 
 pub values-come-back : ValuesComeBack
-values-come-back = record { state = state-back; status = λ r. refl; frame = frame-back }
+values-come-back = record { state = state-back; recorded = λ r. refl; frame = frame-back }
 
 -- ---- words to a value and back
 
@@ -89,15 +90,22 @@ values-come-back = record { state = state-back; status = λ r. refl; frame = fra
 spelled-out : (ws : List ℕ) (n : ℕ) → length ws ≡ n → run (word ws) 0 n ≡ ws
 spelled-out ws n e = ap (run (word ws) 0) (sym e) ∙ spelled ws
 
-state-forth : (ws : List ℕ) → length ws ≡ 27 → word ws 22 < 2 ^ 32 → plainRegisters ws ≡ true → packState (unpackState ws) ≡ ws
+state-forth : (ws : List ℕ) → length ws ≡ 27 → word ws 22 < 2 ^ 32 → plainRegisters ws ≡ true
+    → packState (unpackState ws) ≡ ws
 unfolding packState unpackState run
 state-forth ws e low plain =
     let p = and-both (isYesNo (word ws 12)) (isYesNo (word ws 13)) plain in
     let z : packState (unpackState ws) ≡ run (word ws) 0 27 =
-    cc (yes-forth (word ws 12) (p .0), yes-forth (word ws 13) (p .1), lower (word ws 22) (word ws 23) low, upper (word ws 22) (word ws 23) low) in
+    cc (yes-forth (word ws 12) (p .0), yes-forth (word ws 13) (p .1),
+    lower (word ws 22) (word ws 23) low, upper (word ws 22) (word ws 23) low) in
     z ∙ spelled-out ws 27 e
 
-record-forth : (ws : List ℕ) → length ws ≡ 2 → packRecord (unpackRecord ws) ≡ ws
+-- a state that was taken from words: it is theirs, and gives them back
+pub taken : (ws : List ℕ) (s : State) → StateWords ws → word ws 22 < 2 ^ 32 → s ≡ unpackState ws
+    → (s ≡ unpackState ws) × (packState s ≡ ws)
+taken ws s h low e = (e, ap packState e ∙ state-forth ws (h .size) low (h .plain))
+
+pub record-forth : (ws : List ℕ) → length ws ≡ 2 → packRecord (unpackRecord ws) ≡ ws
 unfolding run
 record-forth ws e = spelled-out ws 2 e
 
@@ -110,11 +118,16 @@ frame-forth ws e plain =
     let r = and-both (yes 1 && yes 2) (yes 3) (q .0) in
     let t = and-both (yes 1) (yes 2) (r .0) in
     let z : packFrame (unpackFrame ws) ≡ run (word ws) 0 7 =
-    cc (yes-forth (word ws 1) (t .0), yes-forth (word ws 2) (t .1), yes-forth (word ws 3) (r .1), yes-forth (word ws 4) (q .1), yes-forth (word ws 5) (p .1)) in
+    cc (yes-forth (word ws 1) (t .0), yes-forth (word ws 2) (t .1), yes-forth (word ws 3) (r .1),
+    yes-forth (word ws 4) (q .1), yes-forth (word ws 5) (p .1)) in
     z ∙ spelled-out ws 7 e
 
 pub words-come-back : WordsComeBack
-words-come-back = record { state = λ ws e small plain. state-forth ws e (small 22) plain; status = record-forth; frame = frame-forth }
+words-come-back = record {
+  state = λ ws e small plain. state-forth ws e (small 22) plain;
+  recorded = record-forth;
+  frame = frame-forth;
+}
 
 pub registers-come-first : RegistersComeFirst
 unfolding unpackState

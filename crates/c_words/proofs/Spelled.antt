@@ -14,7 +14,8 @@ use Rattle.c_words.specs.Words.{word}
 pub spelled : (ws : List ℕ) → run (word ws) 0 (length ws) ≡ ws
 spelled ws =
     ext-getD 0 (run (word ws) 0 (length ws)) ws (length-run (word ws) 0 (length ws))
-    (λ i h. getD-run (word ws) 0 (length ws) i (omega (arith, length-run (word ws) 0 (length ws))) ∙ ap (word ws) (zero-add i))
+    (λ i h. getD-run (word ws) 0 (length ws) i (omega (arith, length-run (word ws) 0 (length ws)))
+    ∙ ap (word ws) (zero-add i))
 
 -- a loop that puts the words of a list
 module _ (from l : List ℕ) (place : ℕ) where
@@ -22,7 +23,8 @@ module _ (from l : List ℕ) (place : ℕ) where
   put-none = run-none (word from) l place
 
   module _ (m : List ℕ) (k : ℕ) (so : m ≡ splice l place (run (word from) 0 k)) where
-    pub put-turn : k < length from → place + length from ≤ length l → set m (place + k) (word from k) ≡ splice l place (run (word from) 0 (k + 1))
+    pub put-turn : k < length from → place + length from ≤ length l
+        → set m (place + k) (word from k) ≡ splice l place (run (word from) 0 (k + 1))
     put-turn h r = run-turn (word from) l place m k (length from) so (word from k) h r refl
 
     pub put-done : k ≤ length from → length from ≤ k → m ≡ splice l place from

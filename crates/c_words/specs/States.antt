@@ -1,9 +1,7 @@
 -- A state, its registers and a record as words, and back.
 use Prim.Native.Nat.{ℕ, _+_, _*_, _/_, _%_, _^_}
-use mathlib.Core.Path.{_≡_}
 use mathlib.Core.Bool.{Bool, _&&_}
 use mathlib.Core.List.{List, [], _∷_}
-use lib.ListN.{length}
 use Rattle.ring.specs.declared.Ring.{Ring}
 use Rattle.registers.specs.declared.Registers.{Registers}
 use Rattle.engine.specs.declared.state.State.{State}
@@ -37,7 +35,8 @@ plainRegisters ws = isYesNo (word ws 12) && isYesNo (word ws 13)
 abbrev pub unpackRing : List ℕ → ℕ → Ring
 unpackRing ws n = record { oldest = word ws n; fill = word ws (n + 1) }
 
--- the state is 27 words: the registers; FIFO 0, FIFO 1, events, shared; the new-data bits, 0 to 31 and 32 to 63; pending, sent, cancelled
+-- the state is 27 words: the registers; FIFO 0, FIFO 1, events, shared; the new-data bits, 0 to 31 and 32 to 63;
+-- pending, sent, cancelled
 unfoldable pub unpackState : List ℕ → State
 unpackState ws = record {
   regs = unpackRegisters ws;
@@ -88,8 +87,3 @@ unpackRecord ws = record { flags = word ws 0; priority = word ws 1 }
 
 abbrev pub packRecord : Record → List ℕ
 packRecord r = r .flags ∷ r .priority ∷ []
-
--- a state and a record can be taken from these words, and put there
-pub record Unpackable (state status : List ℕ) : Type 0 where
-  pub states : length state ≡ 27
-  pub records : length status ≡ 2

@@ -1,10 +1,11 @@
-// A frame as words, and back.
+// A frame and a request as words, and back.
 use crate::buffers::word_at;
+use element::TxHeader;
 use frame::Frame;
 use frame::bit_of;
 ghost use mathlib.Core.Path.{_≡_};
 ghost use lib.ListN.{length};
-ghost use Rattle.c_words.specs.Frames.{plainFrame, unpackFrame, packFrame};
+ghost use Rattle.c_words.specs.Frames.{plainFrame, unpackFrame, packFrame, unpackRequest};
 
 pub const FRAME_WORDS: usize = 7;
 
@@ -44,4 +45,17 @@ pub fn pack_frame(f: Frame) -> [u32; 7]
     let brs = bit_of(f.brs);
     let esi = bit_of(f.esi);
     [f.id, xtd, rtr, fdf, brs, esi, f.dlc]
+}
+
+// What a request brings.
+pub fn take_request(words: &[u32], marker: u8, wish: u32) -> TxHeader
+    requires { ⌜ length (now words) ≡ 7 ⌝ }
+    ensures { λ h. ⌜ h ≡ unpackRequest (now (words .entry)) marker wish ⌝ }
+{
+    let frame = take_frame(words);
+    TxHeader {
+        frame,
+        marker,
+        wish: wish == 1,
+    }
 }

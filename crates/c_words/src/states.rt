@@ -19,7 +19,9 @@ use ring::Ring;
 ghost use mathlib.Core.Path.{_≡_};
 ghost use Prim.Native.Nat.{_+_, _*_, _^_, _≤_, _<_};
 ghost use lib.ListN.{length};
-ghost use Rattle.c_words.specs.States.{plainRegisters, unpackRegisters, unpackRing, unpackState, packState, unpackRecord, packRecord, Unpackable};
+ghost use Rattle.c_words.specs.Needs.{StateWords, BoxWords};
+ghost use Rattle.c_words.specs.States.{plainRegisters, unpackRegisters, unpackRing, unpackState, packState};
+ghost use Rattle.c_words.specs.States.{unpackRecord, packRecord};
 
 pub const STATE_WORDS: usize = 27;
 
@@ -75,9 +77,10 @@ fn joined(low: u32, high: u32) -> u64
     low as u64 + high as u64 * 0x1_0000_0000
 }
 
+// Packed again it gives the same words.
 pub fn take_state(words: &[u32]) -> State
-    requires { ⌜ length (now words) ≡ 27 ⌝ }
-    ensures { λ s. ⌜ s ≡ unpackState (now (words .entry)) ⌝ }
+    requires { ⌜ StateWords (now words) ⌝ }
+    ensures { λ s. ⌜ (s ≡ unpackState (now (words .entry))) × (packState s ≡ now (words .entry)) ⌝ }
 {
     let regs = take_registers(words);
     let fifo0 = take_ring(words, 14);
@@ -159,10 +162,10 @@ pub fn put_record(words: &mut [u32], r: Record)
 }
 
 // The state and its record at once.
-pub fn put_both(state: &mut [u32], status: &mut [u32], s: State, r: Record)
-    requires { ⌜ Unpackable (now state) (now status) ⌝ }
-    ensures { λ _. ⌜ (now (state .exit) ≡ packState s) × (now (status .exit) ≡ packRecord r) ⌝ }
+pub fn put_both(state: &mut [u32], recorded: &mut [u32], s: State, r: Record)
+    requires { ⌜ BoxWords (now state) (now recorded) ⌝ }
+    ensures { λ _. ⌜ (now (state .exit) ≡ packState s) × (now (recorded .exit) ≡ packRecord r) ⌝ }
 {
     put_state(state, s);
-    put_record(status, r)
+    put_record(recorded, r)
 }
