@@ -2,6 +2,8 @@
 use crate::numbers::filter_number;
 use crate::numbers::reason_number;
 use crate::numbers::refusal_number;
+use c_words::buffers::put;
+use c_words::frames::pack_frame;
 use choosing::asking::ChoiceAnswer;
 use choosing::asking::Chosen;
 use element::EventHeader;
@@ -11,8 +13,6 @@ use engine::overview::StatusAnswer;
 use frame::bit_of;
 use layout::check::Verdict;
 use layout::sections::Section;
-use c_words::buffers::put;
-use c_words::frames::pack_frame;
 use receiving::receive::Received;
 use sending::events::EventAnswer;
 use sending::requesting::Requested;

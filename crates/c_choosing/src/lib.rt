@@ -1,14 +1,14 @@
 // Calls 10 and 11 on words.
-use choosing::asking;
+use c_answers::answers::ANSWER_WORDS;
+use c_answers::answers::tell_choice;
+use c_answers::numbers::reply_number;
 use c_entering::entering::enter;
 use c_words::states::put_both;
 use c_words::states::take_record;
 use c_words::states::take_state;
+use choosing::asking;
 use reporting::report;
 use reporting::report::AfterReport;
-use c_answers::answers::ANSWER_WORDS;
-use c_answers::answers::tell_choice;
-use c_answers::numbers::reply_number;
 ghost use mathlib.Core.Path.{_≡_};
 ghost use mathlib.Core.List.{[]};
 ghost use Rattle.reporting.specs.Reporting.{reportOutcome, reportRule};

@@ -1,11 +1,11 @@
 // What the boundary itself finds against a call.
+use c_answers::answers::ANSWER_WORDS;
 use c_words::frames;
 use c_words::frames::FRAME_WORDS;
 use c_words::states::RECORD_WORDS;
 use c_words::states::REGISTER_WORDS;
 use c_words::states::STATE_WORDS;
 use c_words::states::is_plain;
-use c_answers::answers::ANSWER_WORDS;
 ghost use mathlib.Core.Path.{_≡_};
 ghost use mathlib.Core.Bool.{_&&_};
 ghost use lib.Dec.{eqb};

@@ -1,10 +1,10 @@
 // Calls 3 and 5 on words.
+use c_answers::answers::ANSWER_WORDS;
+use c_answers::answers::tell_read;
 use c_entering::entering::enter;
 use c_words::states::take_record;
 use c_words::states::take_state;
 use taking::reading;
-use c_answers::answers::ANSWER_WORDS;
-use c_answers::answers::tell_read;
 ghost use mathlib.Core.Path.{_≡_};
 ghost use Rattle.c_entering.specs.Crossing.{outcome, lent};
 ghost use Rattle.c_receiving.specs.ReceivingCalls.{readFifoCall, readBufferCall};

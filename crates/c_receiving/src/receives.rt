@@ -1,4 +1,5 @@
 // Call 2 on words.
+use c_answers::answers::tell_received;
 use c_entering::entering::enter_frame;
 use c_words::frames::take_frame;
 use c_words::states::put_both;
@@ -6,7 +7,6 @@ use c_words::states::take_record;
 use c_words::states::take_state;
 use receiving::receive;
 use receiving::receive::AfterReceive;
-use c_answers::answers::tell_received;
 ghost use mathlib.Core.Path.{_≡_};
 ghost use mathlib.Core.List.{[]};
 ghost use lib.ListN.{length};

@@ -1,12 +1,12 @@
 // Calls 12 and 13 on words.
+use c_answers::answers::ANSWER_WORDS;
+use c_answers::answers::tell_event;
+use c_answers::numbers::reply_number;
 use c_entering::entering::enter;
 use c_words::states::put_state;
 use c_words::states::take_record;
 use c_words::states::take_state;
 use sending::events;
-use c_answers::answers::ANSWER_WORDS;
-use c_answers::answers::tell_event;
-use c_answers::numbers::reply_number;
 ghost use mathlib.Core.Path.{_≡_};
 ghost use mathlib.Core.List.{[]};
 ghost use Rattle.c_entering.specs.Crossing.{outcome, lent};

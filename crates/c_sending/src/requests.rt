@@ -1,4 +1,5 @@
 // Calls 7 and 8 on words.
+use c_answers::answers::tell_requested;
 use c_entering::entering::enter_frame;
 use c_words::frames::take_frame;
 use c_words::states::put_state;
@@ -6,7 +7,6 @@ use c_words::states::take_record;
 use c_words::states::take_state;
 use sending::requesting;
 use sending::requesting::AfterRequest;
-use c_answers::answers::tell_requested;
 ghost use mathlib.Core.Path.{_≡_};
 ghost use mathlib.Core.List.{[]};
 ghost use lib.ListN.{length};

@@ -96,8 +96,12 @@ unfolding packState unpackState run
 state-forth ws e low plain =
     let p = and-both (isYesNo (word ws 12)) (isYesNo (word ws 13)) plain in
     let z : packState (unpackState ws) ≡ run (word ws) 0 27 =
-    cc (yes-forth (word ws 12) (p .0), yes-forth (word ws 13) (p .1),
-    lower (word ws 22) (word ws 23) low, upper (word ws 22) (word ws 23) low) in
+    cc (
+      yes-forth (word ws 12) (p .0),
+      yes-forth (word ws 13) (p .1),
+      lower (word ws 22) (word ws 23) low,
+      upper (word ws 22) (word ws 23) low,
+    ) in
     z ∙ spelled-out ws 27 e
 
 -- a state that was taken from words: it is theirs, and gives them back
@@ -118,8 +122,13 @@ frame-forth ws e plain =
     let r = and-both (yes 1 && yes 2) (yes 3) (q .0) in
     let t = and-both (yes 1) (yes 2) (r .0) in
     let z : packFrame (unpackFrame ws) ≡ run (word ws) 0 7 =
-    cc (yes-forth (word ws 1) (t .0), yes-forth (word ws 2) (t .1), yes-forth (word ws 3) (r .1),
-    yes-forth (word ws 4) (q .1), yes-forth (word ws 5) (p .1)) in
+    cc (
+      yes-forth (word ws 1) (t .0),
+      yes-forth (word ws 2) (t .1),
+      yes-forth (word ws 3) (r .1),
+      yes-forth (word ws 4) (q .1),
+      yes-forth (word ws 5) (p .1),
+    ) in
     z ∙ spelled-out ws 7 e
 
 pub words-come-back : WordsComeBack
