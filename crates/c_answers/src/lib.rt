@@ -1,3 +1,3 @@
 // What the handler's calls say, in words.
-pub mod answers;
+pub mod engine_answers;
 pub mod numbers;
