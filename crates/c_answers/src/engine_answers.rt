@@ -15,8 +15,6 @@ ghost use Rattle.overview.specs.Overview.{meaning as statusSays};
 ghost use Rattle.c_answers.specs.Answers.{resultOf, toldIn, startWords, overviewWords};
 ghost use Rattle.c_answers.specs.Needs.{NamesFit, CanTell};
 
-pub const ANSWER_WORDS: usize = 16;
-
 // First word and words of each section.
 fn section_words(s: [Section; 7]) -> [u32; 14]
     ensures { λ ws. ⌜ ws ≡ flat s ⌝ }

@@ -1,3 +1,6 @@
 // What the handler's calls say, in words.
 pub mod engine_answers;
 pub mod numbers;
+
+// How many words a lent answer has.
+pub const ANSWER_WORDS: usize = 16;

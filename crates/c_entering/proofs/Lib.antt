@@ -1,3 +1,4 @@
 pub mod Entries
-pub mod Bounds
+pub mod Crossed
+pub mod Names
 pub mod EngineCalls

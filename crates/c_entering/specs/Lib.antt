@@ -1,2 +1,3 @@
-pub mod Crossing
+pub mod Entering
 pub mod EngineCalls
+pub mod Promises

@@ -12,7 +12,7 @@ use Rattle.words.proofs.Choices.{and-both}
 use Rattle.frame.specs.declared.Frame.{Frame}
 use Rattle.engine.specs.declared.state.State.{State}
 use Rattle.c_words.specs.Words.{word, yesNo, saysYes, isYesNo}
-use Rattle.c_words.specs.States.{plainRegisters, packState, unpackState, packRecord, unpackRecord}
+use Rattle.c_words.specs.States.{plainRegisters, packState, unpackState, ComesBack, packRecord, unpackRecord}
 use Rattle.c_words.specs.Needs.{StateWords}
 use Rattle.c_words.specs.Frames.{plainFrame, packFrame, unpackFrame}
 use Rattle.c_words.specs.Promises.{ValuesComeBack, WordsComeBack, RegistersComeFirst}
@@ -90,8 +90,7 @@ values-come-back = record { state = state-back; recorded = λ r. refl; frame = f
 spelled-out : (ws : List ℕ) (n : ℕ) → length ws ≡ n → run (word ws) 0 n ≡ ws
 spelled-out ws n e = ap (run (word ws) 0) (sym e) ∙ spelled ws
 
-state-forth : (ws : List ℕ) → length ws ≡ 27 → word ws 22 < 2 ^ 32 → plainRegisters ws ≡ true
-    → packState (unpackState ws) ≡ ws
+state-forth : (ws : List ℕ) → length ws ≡ 27 → word ws 22 < 2 ^ 32 → plainRegisters ws ≡ true → ComesBack ws
 unfolding packState unpackState run
 state-forth ws e low plain =
     let p = and-both (isYesNo (word ws 12)) (isYesNo (word ws 13)) plain in
@@ -104,10 +103,10 @@ state-forth ws e low plain =
     ) in
     z ∙ spelled-out ws 27 e
 
--- a state that was taken from words: it is theirs, and gives them back
+-- a state that was taken from words
 pub taken : (ws : List ℕ) (s : State) → StateWords ws → word ws 22 < 2 ^ 32 → s ≡ unpackState ws
-    → (s ≡ unpackState ws) × (packState s ≡ ws)
-taken ws s h low e = (e, ap packState e ∙ state-forth ws (h .size) low (h .plain))
+    → (s ≡ unpackState ws) × ComesBack ws
+taken ws s h low e = (e, state-forth ws (h .size) low (h .plain))
 
 pub record-forth : (ws : List ℕ) → length ws ≡ 2 → packRecord (unpackRecord ws) ≡ ws
 unfolding run

@@ -8,7 +8,7 @@ use Rattle.frame.specs.declared.Frame.{Frame}
 use Rattle.engine.specs.declared.state.State.{State}
 use Rattle.engine.specs.declared.state.Record.{Record}
 use Rattle.c_words.specs.Words.{word}
-use Rattle.c_words.specs.States.{plainRegisters, unpackRegisters, unpackState, packState}
+use Rattle.c_words.specs.States.{plainRegisters, unpackRegisters, unpackState, packState, ComesBack}
 use Rattle.c_words.specs.States.{unpackRecord, packRecord}
 use Rattle.c_words.specs.Frames.{plainFrame, unpackFrame, packFrame}
 
@@ -24,8 +24,7 @@ Fit32 ws = (n : ℕ) → word ws n < 2 ^ 32
 
 -- all such words of the right number, whose words of yes or no say so, come back from their state, record or frame
 pub record WordsComeBack : Type 0 where
-  pub state : (ws : List ℕ) → length ws ≡ 27 → Fit32 ws → plainRegisters ws ≡ true
-      → packState (unpackState ws) ≡ ws
+  pub state : (ws : List ℕ) → length ws ≡ 27 → Fit32 ws → plainRegisters ws ≡ true → ComesBack ws
   pub recorded : (ws : List ℕ) → length ws ≡ 2 → packRecord (unpackRecord ws) ≡ ws
   pub frame : (ws : List ℕ) → length ws ≡ 7 → plainFrame ws ≡ true → packFrame (unpackFrame ws) ≡ ws
 

@@ -1,5 +1,6 @@
 -- A state, its registers and a record as words, and back.
 use Prim.Native.Nat.{ℕ, _+_, _*_, _/_, _%_, _^_}
+use mathlib.Core.Path.{_≡_}
 use mathlib.Core.Bool.{Bool, _&&_}
 use mathlib.Core.List.{List, [], _∷_}
 use Rattle.ring.specs.declared.Ring.{Ring}
@@ -80,6 +81,10 @@ packState s =
     ∷ s .sent
     ∷ s .cancelled
     ∷ []
+
+-- the state that stands in these words packs to the same words
+abbrev pub ComesBack : List ℕ → Type 0
+ComesBack ws = packState (unpackState ws) ≡ ws
 
 -- a record is 2 words: flags and priority
 abbrev pub unpackRecord : List ℕ → Record

@@ -10,7 +10,7 @@ ghost use Rattle.c_words.specs.Frames.{plainFrame, unpackFrame, packFram
 pub const FRAME_WORDS: usize = 7;
 
 // The five words that say yes or no are 0 or 1.
-pub fn is_plain(words: &[u32]) -> bool
+pub fn is_plain_frame(words: &[u32]) -> bool
     ensures { λ b. ⌜ b ≡ plainFrame (now (words .entry)) ⌝ }
 {
     let xtd = word_at(words, 1);

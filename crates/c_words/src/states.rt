@@ -20,7 +20,7 @@ ghost use mathlib.Core.Path.{_≡_};
 ghost use Prim.Native.Nat.{_+_, _*_, _^_, _≤_, _<_};
 ghost use lib.ListN.{length};
 ghost use Rattle.c_words.specs.Needs.{StateWords, BoxWords};
-ghost use Rattle.c_words.specs.States.{plainRegisters, unpackRegisters, unpackRing, unpackState, packState};
+ghost use Rattle.c_words.specs.States.{plainRegisters, unpackRegisters, unpackRing, unpackState, packState, ComesBack};
 ghost use Rattle.c_words.specs.States.{unpackRecord, packRecord};
 
 pub const STATE_WORDS: usize = 27;
@@ -30,7 +30,7 @@ pub const RECORD_WORDS: usize = 2;
 pub const REGISTER_WORDS: usize = 14;
 
 // The two words that say yes or no are 0 or 1.
-pub fn is_plain(words: &[u32]) -> bool
+pub fn is_plain_registers(words: &[u32]) -> bool
     ensures { λ b. ⌜ b ≡ plainRegisters (now (words .entry)) ⌝ }
 {
     let fdon = word_at(words, 12);
@@ -80,7 +80,7 @@ fn joined(low: u32, high: u32) -> u64
 // Packed again it gives the same words.
 pub fn take_state(words: &[u32]) -> State
     requires { ⌜ StateWords (now words) ⌝ }
-    ensures { λ s. ⌜ (s ≡ unpackState (now (words .entry))) × (packState s ≡ now (words .entry)) ⌝ }
+    ensures { λ s. ⌜ (s ≡ unpackState (now (words .entry))) × ComesBack (now (words .entry)) ⌝ }
 {
     let regs = take_registers(words);
     let fifo0 = take_ring(words, 14);

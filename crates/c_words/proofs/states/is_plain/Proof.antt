@@ -1,7 +1,0 @@
--- Each word that is looked at is the one of the definition.
-use borrow.Author.Needs.{needs}
-use Rattle.c_words.proofs.states.is_plain.Statement.{statement}
-use Rattle.c_words.proofs.states.is_plain.Tie as tie
-
-pub is-plain-spec : {M : Type 1} → statement M
-is-plain-spec = tie.close (tie.spec (λ c κs. search needs) (λ c κs. search needs) (λ c. cc))
