@@ -45,7 +45,8 @@ module _ (g : Registers) where
   own-size (suc (suc (suc (suc (suc i))))) h = absurd (omega arith)
 
 -- sections that lie apart are areas that do
-areas-apart : (a b : Area) (s t : Section) → s .start .0 ≡ a .start .0 → s .words ≡ a .count * a .each → t .start .0 ≡ b .start .0 → t .words ≡ b .count * b .each
+areas-apart : (a b : Area) (s t : Section) → s .start .0 ≡ a .start .0 → s .words ≡ a .count * a .each
+    → t .start .0 ≡ b .start .0 → t .words ≡ b .count * b .each
     → (end s ≤ t .start .0) ⊎ (end t ≤ s .start .0) → Apart a b
 areas-apart a b s t e f p q (inl h) = inl (omega (arith, h, e, f, p))
 areas-apart a b s t e f p q (inr h) = inr (omega (arith, h, e, p, q))
@@ -53,7 +54,8 @@ areas-apart a b s t e f p q (inr h) = inr (omega (arith, h, e, p, q))
 module _ (g : Registers) (words : ℕ) (legal : Legal memoryWords g words) where
   own-before : (i j : ℕ) → i < j → j < 5 → Apart (own g i) (own g j)
   own-before i j a b =
-      areas-apart (own g i) (own g j) _ _ (own-start g i (omega arith)) (own-size g i (omega arith)) (own-start g j b) (own-size g j b)
+      areas-apart (own g i) (own g j) _ _ (own-start g i (omega arith)) (own-size g i (omega arith)) (own-start g j b)
+      (own-size g j b)
       (sections-apart memoryWords g words legal (2 + i) (2 + j) (omega arith) (omega arith))
 
   pub own-apart : (i j : ℕ) → i < 5 → j < 5 → (i ≡ j → ⊥) → Apart (own g i) (own g j)
@@ -61,7 +63,8 @@ module _ (g : Registers) (words : ℕ) (legal : Legal memoryWords g words) where
     where
       go : (t : Bool) → ltb i j ≡ t → Apart (own g i) (own g j)
       go true e = own-before i j (ltb-true i j e) b
-      go false e = apart-sym (areaRange (own g j)) (areaRange (own g i)) (own-before j i (omega (arith, ne, ltb-false i j e)) a)
+      go false e =
+          apart-sym (areaRange (own g j)) (areaRange (own g i)) (own-before j i (omega (arith, ne, ltb-false i j e)) a)
 
 pub areas-lie-apart : AreasLieApart
 areas-lie-apart g words h i j a b ne = own-apart g words h i j a b ne
@@ -69,6 +72,14 @@ areas-lie-apart g words h i j a b ne = own-apart g words h i j a b ne
 -- word k of an area is one of its section, and the other way round
 pub areas-are-sections : AreasAreSections
 areas-are-sections g i k l = (
-  λ h. within-has g (2 + i) k (record { from = omega (arith, h .from, own-start g i l); below = omega (arith, h .below, own-start g i l, own-size g i l) }),
-  λ h. let w = has-within g (2 + i) k h in record { from = omega (arith, w .from, own-start g i l); below = omega (arith, w .below, own-start g i l, own-size g i l) },
+  λ h. within-has g (2 + i) k
+      (record {
+        from = omega (arith, h .from, own-start g i l);
+        below = omega (arith, h .below, own-start g i l, own-size g i l);
+      }),
+  λ h. let w = has-within g (2 + i) k h in
+      record {
+        from = omega (arith, w .from, own-start g i l);
+        below = omega (arith, w .below, own-start g i l, own-size g i l);
+      },
 )

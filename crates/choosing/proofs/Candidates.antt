@@ -15,11 +15,11 @@ use Rattle.words.specs.Choice.{pick}
 use Rattle.words.proofs.Bests.{best-wins, best-none, best-only}
 use Rattle.words.proofs.Choices.{and-both}
 use Rattle.ring.proofs.Holding.{oldest-held}
-use Rattle.engine.specs.Areas.{dedicated, shared, txCount, isQueue}
+use Rattle.registers.specs.Fields.{dedicated, shared, txCount, isQueue}
+use Rattle.engine.specs.Buffers.{isPending}
 use Rattle.engine.specs.Fitness.{sharedRingSize, Sound}
 use Rattle.engine.specs.declared.state.State.{State}
 use Rattle.engine.proofs.Cases.{fifo-ring}
-use Rattle.choosing.specs.Buffers.{isPending}
 use Rattle.choosing.specs.Choosing.{isCandidate, rankAt, choice}
 use Rattle.choosing.specs.Promises.{Candidate, dedicatedOne, oldestOne, queueOne, CandidatesAreThose, CandidatesWait, BestOf, ChoiceIsBest, NoneChosen}
 

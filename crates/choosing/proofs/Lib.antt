@@ -1,2 +1,5 @@
 pub mod Picks
+pub mod Calls
 pub mod Candidates
+pub mod Own
+pub mod Answers

@@ -1,31 +1,32 @@
--- Call 10, ask the choice: the best candidate in arbitration, and the whole outcome.
-use Prim.Native.Nat.{ℕ, _+_, _<_}
-use mathlib.Core.Path.{_≡_}
-use mathlib.Core.Bool.{Bool, not, _&&_}
-use mathlib.Core.List.{List, [], _∷_}
+-- Call 10, ask the choice: the best candidate in arbitration, and its frame as it is sent.
+use Prim.Native.Nat.{ℕ, _+_}
+use mathlib.Core.Bool.{Bool, _&&_}
+use mathlib.Core.List.{List, [], _∷_, _++_}
 use lib.Dec.{eqb, ltb}
 use lib.ListN.{length}
 use Rattle.words.specs.Choice.{pick}
-use Rattle.words.specs.Best.{Best, nobody, somebody, better, bestBelow}
-use Rattle.words.specs.Rules.{Ruling, refuseIf, first, settle}
+use Rattle.words.specs.Best.{Best, nobody, somebody, bestBelow}
 use Rattle.words.specs.Runs.{splice}
-use Rattle.frame.specs.Rank.{rank}
+use Rattle.frame.specs.Arbitration.{rankOf}
 use Rattle.frame.specs.Sent.{asSent}
 use Rattle.frame.specs.declared.Frame.{Frame}
+use Rattle.registers.specs.Fields.{dedicated, txCount, isQueue}
+use Rattle.registers.specs.declared.Registers.{Registers}
 use Rattle.element.specs.Bytes.{lengthOf, sentFrom}
-use Rattle.element.specs.declared.TxHeader.{TxHeader}
-use Rattle.engine.specs.Answers.{Says, refuses, answers, numberOf, wrongOutput}
-use Rattle.engine.specs.Areas.{dedicated, txCount, isQueue, txArea, dataWords, placeIn, HasPlace}
-use Rattle.engine.specs.Fitness.{unfit, Sound}
-use Rattle.engine.specs.declared.areas.Area.{Area}
+use Rattle.places.specs.Areas.{placeIn}
+use Rattle.areas.specs.Areas.{txArea, dataWords}
+use Rattle.shape.specs.Calls.{Says, refuses, answers, effect, call}
+use Rattle.shape.specs.Refusals.{Refusals}
+use Rattle.engine.specs.Answers.{told}
+use Rattle.engine.specs.Buffers.{isPending}
+use Rattle.engine.specs.Calls.{World, Outcome, Effect, _when_, isUnfit, outputRefusals}
 use Rattle.engine.specs.declared.state.State.{State}
-use Rattle.engine.specs.declared.state.Record.{Record}
-use Rattle.choosing.specs.Buffers.{isPending, headerIn, headerOf}
+use Rattle.choosing.specs.Buffers.{headerOf}
 use Rattle.choosing.specs.declared.asking.Chosen.{Chosen}
-use Rattle.choosing.specs.declared.picking.Pick
-use Rattle.choosing.specs.declared.picking.Pick.{Pick}
 use Rattle.choosing.specs.declared.asking.ChoiceAnswer.{ChoiceAnswer}
 use Rattle.choosing.specs.declared.asking.ChoiceAnswer.the-variants.{Nothing, Send, Refused}
+
+-- ---- which buffer
 
 -- a dedicated or a queue buffer stands while it is pending; of a shared FIFO only the oldest does
 unfoldable pub isCandidate : State → ℕ → Bool
@@ -35,100 +36,66 @@ isCandidate s buffer =
     (ltb 0 (s .shared .fill) && eqb buffer (dedicated (s .regs) + s .shared .oldest)))
 
 -- a buffer's rank, from its element's words
-abbrev pub rankOf : TxHeader → ℕ
-rankOf h = rank (h .frame .xtd) (h .frame .rtr) (h .frame .id)
-
 abbrev pub rankAt : State → List ℕ → ℕ → ℕ
-rankAt s mem buffer = rankOf (headerOf s mem buffer)
+rankAt s mem buffer = rankOf (headerOf s mem buffer .frame)
 
--- the choice: the smallest rank, and on a tie the lower buffer number; among the first n buffers, and among all
-abbrev pub choiceBelow : State → List ℕ → ℕ → Best
-choiceBelow s mem n = bestBelow (isCandidate s) (rankAt s mem) n
-
+-- the smallest rank, and on a tie the lower buffer number
 unfoldable pub choice : State → List ℕ → Best
-choice s mem = choiceBelow s mem (txCount (s .regs))
+choice s mem = bestBelow (isCandidate s) (rankAt s mem) (txCount (s .regs))
 
--- a buffer's frame as it is sent
-abbrev pub sentIn : List ℕ → Area → ℕ → Bool → Bool → Bool → Frame
-sentIn mem a buffer fd switching passive = asSent (headerIn mem a buffer .frame) fd switching passive
+-- ---- what is told of it
+
+-- a frame as it is sent, by the registers and the error-passive input
+abbrev pub formSent : Registers → Frame → Bool → Frame
+formSent g f passive = asSent f (g .fdon) (g .rateon) passive
 
 abbrev pub sentFrame : State → List ℕ → Bool → ℕ → Frame
-sentFrame s mem passive buffer = sentIn mem (txArea (s .regs)) buffer (s .regs .fdon) (s .regs .rateon) passive
+sentFrame s mem passive buffer = formSent (s .regs) (headerOf s mem buffer .frame) passive
 
--- what is told of it
-abbrev pub chosenIn : List ℕ → Area → ℕ → Bool → Bool → Bool → Chosen
-chosenIn mem a buffer fd switching passive =
-    let h = headerIn mem a buffer in
-    let f = sentIn mem a buffer fd switching passive in
+abbrev pub chosenOf : State → List ℕ → Bool → ℕ → Chosen
+chosenOf s mem passive buffer =
+    let h = headerOf s mem buffer in
+    let f = sentFrame s mem passive buffer in
     record { buffer = buffer; marker = h .marker; wish = h .wish; frame = f; count = lengthOf f }
 
--- the bytes to send go to the front of the output, and the rest stays
-abbrev pub bytesOut : List ℕ → Area → ℕ → Frame → List ℕ → List ℕ
-bytesOut mem a buffer f out = splice out 0 (sentFrom mem (placeIn a buffer) (dataWords a) (lengthOf f))
+-- its bytes as they are sent
+abbrev pub bytesOf : State → List ℕ → Bool → ℕ → List ℕ
+bytesOf s mem passive buffer =
+    let a = txArea (s .regs) in
+    sentFrom mem (placeIn a buffer) (dataWords a) (lengthOf (sentFrame s mem passive buffer))
 
 -- nothing to send, or the frame to send
 pub data Next : Type 0 where
   none : Next
   send : Chosen → Next
 
+abbrev pub nextOf : State → List ℕ → Bool → Best → Next
+nextOf s mem passive nobody = none
+nextOf s mem passive (somebody buffer) = send (chosenOf s mem passive buffer)
+
+-- the bytes to send go to the front of the output, and the rest stays
+abbrev pub outputOf : State → List ℕ → Bool → List ℕ → Best → List ℕ
+outputOf s mem passive out nobody = out
+outputOf s mem passive out (somebody buffer) = splice out 0 (bytesOf s mem passive buffer)
+
+-- what the code answers
 abbrev pub meaning : ChoiceAnswer → Says Next
 meaning Nothing = answers none
 meaning (Send c) = answers (send c)
-meaning (Refused n) = refuses (numberOf n)
+meaning (Refused n) = refuses (told n)
 
-pub record ChoiceOutcome : Type 0 where
-  pub says : Says Next
-  pub output : List ℕ
+-- ---- the call
 
-abbrev pub choiceOutcome : ChoiceAnswer → List ℕ → ChoiceOutcome
-choiceOutcome a out = record { says = meaning a; output = out }
+-- what is against it, but for 30
+unfoldable pub choiceRefusals : World → Refusals
+choiceRefusals w = 20 when isUnfit w ∷ []
 
-abbrev pub chosen : State → List ℕ → Bool → List ℕ → Best → ChoiceOutcome
-chosen s mem passive out nobody = record { says = answers none; output = out }
-chosen s mem passive out (somebody buffer) = record {
-  says = answers (send (chosenIn mem (txArea (s .regs)) buffer (s .regs .fdon) (s .regs .rateon) passive));
-  output = bytesOut mem (txArea (s .regs)) buffer (sentFrame s mem passive buffer) out;
-}
+unfoldable pub chooses : World → Bool → List ℕ → Effect Next
+chooses w passive out =
+    let s = w .state in
+    let best = choice s (w .memory) in
+    effect (nextOf s (w .memory) passive best) w (outputOf s (w .memory) passive out best)
 
 -- call 10
-unfoldable pub choiceRule : State → Record → List ℕ → Bool → List ℕ → ChoiceOutcome
-choiceRule s r mem passive out =
-    settle (first (refuseIf (unfit s r (length mem)) 20 ∷ refuseIf (wrongOutput out) 30 ∷ []))
-    (chosen s mem passive out (choice s mem))
-    (λ n. record { says = refuses n; output = out })
-
--- ---- the parts of it
-
--- 30, which comes after 20
-abbrev pub outputRuling : ℕ → Ruling ℕ
-outputRuling len = first (refuseIf (not (eqb len 64)) 30 ∷ [])
-
-abbrev pub picked : Pick → Best
-picked Pick.the-variants.Nobody = nobody
-picked (Pick.the-variants.Buffer b) = somebody b
-
-unfoldable pub rankIn : List ℕ → Area → ℕ → ℕ
-rankIn mem a buffer = rankOf (headerIn mem a buffer)
-
--- a candidate against the pick so far, and any buffer against it
-unfoldable pub betterIn : List ℕ → Area → Pick → ℕ → Best
-betterIn mem a best buffer = better (rankIn mem a) (picked best) buffer
-
-unfoldable pub lookedAt : State → List ℕ → Area → Pick → ℕ → Best
-lookedAt s mem a best buffer = pick (isCandidate s buffer) (betterIn mem a best buffer) (picked best)
-
--- the pick so far is below a number
-abbrev pub Below : Pick → ℕ → Type 0
-Below Pick.the-variants.Nobody n = Unit {0}
-Below (Pick.the-variants.Buffer b) n = b < n
-
--- a buffer can be compared with the pick so far
-pub record Comparable (a : Area) (words : ℕ) (best : Pick) (buffer : ℕ) : Type 0 where
-  pub place : HasPlace a buffer words
-  pub small : buffer < 32
-  pub below : Below best buffer
-
--- the choice can be told
-pub record CanChoose (s : State) (mem out : List ℕ) : Type 0 where
-  pub sound : Sound s (length mem)
-  pub room : length out ≡ 64
+abbrev pub askChoice : World → Bool → List ℕ → Outcome Next
+askChoice w passive out = call w out (choiceRefusals w ++ outputRefusals (length out)) (chooses w passive out)

@@ -1,3 +1,4 @@
 pub mod Buffers
 pub mod Choosing
+pub mod Needs
 pub mod Promises

@@ -1,10 +1,9 @@
 // The choice: the best candidate in arbitration.
+use areas::tx_area;
 use element::unpack::tx_header;
-use engine::areas::Area;
-use engine::areas::place_in;
-use engine::areas::tx_area;
-use engine::fitness::is_queue;
 use engine::state::State;
+use places::Area;
+use places::place_in;
 use ring::Ring;
 use words::bits32;
 ghost use mathlib.Core.Path.{_≡_};
@@ -12,9 +11,10 @@ ghost use mathlib.Core.Bool.{_&&_};
 ghost use Prim.Native.Nat.{_+_, _≤_, _<_};
 ghost use lib.Dec.{ltb, eqb};
 ghost use lib.ListN.{length};
-ghost use Rattle.engine.specs.Areas.{HasPlace};
+ghost use Rattle.places.specs.Areas.{HasPlace};
 ghost use Rattle.engine.specs.Fitness.{Sound};
-ghost use Rattle.choosing.specs.Choosing.{isCandidate, choice, picked, rankIn, betterIn, lookedAt, Comparable};
+ghost use Rattle.choosing.specs.Choosing.{isCandidate, choice};
+ghost use Rattle.choosing.specs.Needs.{picked, rankIn, betterIn, lookedAt, Comparable};
 
 // The best candidate, if there is one.
 pub enum Pick {
@@ -39,7 +39,7 @@ fn is_candidate(s: State, buffer: u32) -> bool
     if buffer < dedicated {
         return bits32::test(s.pending, buffer);
     }
-    if is_queue(s.regs) {
+    if s.regs.is_queue() {
         return bits32::test(s.pending, buffer);
     }
     is_oldest(s.shared, dedicated, buffer)
@@ -51,7 +51,7 @@ fn rank_at(mem: &[u32], a: Area, buffer: u32) -> u32
     ensures { λ r. ⌜ r ≡ rankIn (now (mem .entry)) a buffer ⌝ }
 {
     let at = place_in(a, buffer, mem.len());
-    let h = tx_header(mem[at], 0);
+    let h = tx_header(mem[at.0 as usize], 0);
     let f = h.frame;
     frame::rank(f.xtd, f.rtr, f.id)
 }

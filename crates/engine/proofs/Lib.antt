@@ -1,7 +1,13 @@
 pub mod Cases
 pub mod Unfitness
 pub mod Sounds
+pub mod Parts
 pub mod Calls
+pub mod Memories
+pub mod Holdings
+pub mod Buffers
+pub mod Alike
 pub mod Replies
 pub mod Keeps
+pub mod Records
 pub mod Fits

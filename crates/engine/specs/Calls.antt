@@ -62,6 +62,10 @@ outputRefusals bytes = 30 when not (eqb bytes outputBytes) ∷ []
 
 -- ---- two memories
 
+-- the same outcome, but for the memory, which is this one
+abbrev pub inMemory : {A : Type 0} → List ℕ → Outcome A → Outcome A
+inMemory mem o = Shape.outcome (o .says) (withMemory (o .world) mem) (o .output)
+
 -- two outcomes are the same but for words outside these sections
 pub record Alike {A : Type 0} (sections : Range) (o p : Outcome A) : Type 0 where
   pub says : p .says ≡ o .says

@@ -1,8 +1,10 @@
 pub mod Answers
 pub mod States
 pub mod Fitness
+pub mod Buffers
 pub mod Flags
 pub mod Keeping
 pub mod Calls
+pub mod Holding
 pub mod Needs
 pub mod Promises

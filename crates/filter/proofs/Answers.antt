@@ -13,7 +13,7 @@ use Rattle.filter.specs.declared.Destination.{Destination}
 use Rattle.filter.specs.declared.Destination.the-variants.{Fifo, Buffer, Discarded}
 
 -- the reason of a number, and the answer that has a meaning
-abbrev reasonOf : ℕ → Reason
+abbrev pub reasonOf : ℕ → Reason
 reasonOf n =
     pick (eqb n 0) Remote
     (pick (eqb n 1) Reject
@@ -27,7 +27,7 @@ answer (toFifo k priority m) = Fifo k priority m
 answer (toBuffer b i) = Buffer b i
 answer (discarded why m) = Discarded (reasonOf why) m
 
-reason-back : (r : Reason) → reasonOf (reason r) ≡ r
+pub reason-back : (r : Reason) → reasonOf (reason r) ≡ r
 reason-back Remote = refl
 reason-back Reject = refl
 reason-back NoMatch = refl

@@ -14,7 +14,8 @@ use Rattle.words.proofs.Runs.{length-run}
 use Rattle.frame.specs.Identifier.{IdInKind}
 use Rattle.frame.specs.Rank.{rank}
 use Rattle.frame.specs.Arbitration.{down, arbitrationBits, Wins, here, later, RankIsArbitration}
-use Rattle.frame.proofs.Order.{Binary, none, more, binary-append, binary-run, value, value-run, Compared, same, first, flipped, compared-append, compared-bit, compared-run, ordered}
+use Rattle.frame.proofs.Order.{Binary, none, more, binary-append, binary-run, value, value-run, Compared, same}
+use Rattle.frame.proofs.Order.{first, flipped, compared-append, compared-bit, compared-run, ordered}
 
 flag-lt : (b : Bool) → pick b 1 0 < 2
 flag-lt true = omega arith
@@ -28,7 +29,8 @@ unfolding arbitrationBits
 field-binary false rtr id = binary-append (down-binary 10 0 id) (more (flag-lt rtr) (more (omega arith) none))
 field-binary true rtr id =
     binary-append (down-binary 28 18 id)
-    (more {x = 1} (omega arith) (more {x = 1} (omega arith) (binary-append (down-binary 17 0 id) (more (flag-lt rtr) none))))
+    (more {x = 1} (omega arith)
+    (more {x = 1} (omega arith) (binary-append (down-binary 17 0 id) (more (flag-lt rtr) none))))
 
 field-length : (xtd rtr : Bool) (id : ℕ) → length (arbitrationBits xtd rtr id) ≤ 32
 unfolding arbitrationBits
@@ -50,18 +52,22 @@ short-first false l = here
 -- as many bits of two numbers
 bits-compared : (high high′ n x y : ℕ) → Compared (run (λ i. bit x (high - i)) 0 n) (run (λ i. bit y (high′ - i)) 0 n)
 bits-compared high high′ n x y =
-    compared-run (λ i. bit x (high - i)) (λ i. bit y (high′ - i)) (λ i. bit-lt x (high - i)) (λ i. bit-lt y (high′ - i)) 0 n
+    compared-run (λ i. bit x (high - i)) (λ i. bit y (high′ - i)) (λ i. bit-lt x (high - i)) (λ i. bit-lt y (high′ - i))
+    0 n
 
 remotes : (rtr rtr′ : Bool) → Compared (pick rtr 1 0 ∷ []) (pick rtr′ 1 0 ∷ [])
 remotes rtr rtr′ = compared-bit (pick rtr 1 0) (pick rtr′ 1 0) (flag-lt rtr) (flag-lt rtr′)
 
-against : (rtr : Bool) (id : ℕ) (rtr′ : Bool) (id′ : ℕ) → Compared (arbitrationBits false rtr id) (arbitrationBits true rtr′ id′)
+against : (rtr : Bool) (id : ℕ) (rtr′ : Bool) (id′ : ℕ)
+    → Compared (arbitrationBits false rtr id) (arbitrationBits true rtr′ id′)
 unfolding arbitrationBits
 against rtr id rtr′ id′ =
     let rest = down 17 0 id′ ++ (pick rtr′ 1 0 ∷ []) in
-    compared-append (pick rtr 1 0 ∷ 0 ∷ []) (1 ∷ 1 ∷ rest) (bits-compared 10 28 11 id id′) (first (short-first rtr rest))
+    compared-append (pick rtr 1 0 ∷ 0 ∷ []) (1 ∷ 1 ∷ rest) (bits-compared 10 28 11 id id′)
+    (first (short-first rtr rest))
 
-field-compared : (xtd rtr : Bool) (id : ℕ) (xtd′ rtr′ : Bool) (id′ : ℕ) → Compared (arbitrationBits xtd rtr id) (arbitrationBits xtd′ rtr′ id′)
+field-compared : (xtd rtr : Bool) (id : ℕ) (xtd′ rtr′ : Bool) (id′ : ℕ)
+    → Compared (arbitrationBits xtd rtr id) (arbitrationBits xtd′ rtr′ id′)
 unfolding arbitrationBits
 field-compared false rtr id false rtr′ id′ =
     compared-append (pick rtr 1 0 ∷ 0 ∷ []) (pick rtr′ 1 0 ∷ 0 ∷ []) (bits-compared 10 10 11 id id′)

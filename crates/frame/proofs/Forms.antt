@@ -24,7 +24,8 @@ neither : {a b : Bool} → a ≡ false → b ≡ false → (a || b) ≡ false
 neither p q = ap₂ _||_ p q
 
 -- the first two grounds say that the identifier is within its kind
-in-kind : (xtd : Bool) (id : ℕ) → (not xtd && ltb 0x7FF id) ≡ false → (xtd && ltb 0x1FFFFFFF id) ≡ false → id ≤ mostId xtd
+in-kind : (xtd : Bool) (id : ℕ) → (not xtd && ltb 0x7FF id) ≡ false → (xtd && ltb 0x1FFFFFFF id) ≡ false
+    → id ≤ mostId xtd
 in-kind true id p q = ltb-false 0x1FFFFFFF id q
 in-kind false id p q = ltb-false 0x7FF id p
 
@@ -41,7 +42,8 @@ or-right : (a b : Bool) → b ≡ true → (a || b) ≡ true
 or-right true b h = refl
 or-right false b h = h
 
-only-fd : (brs esi fdf : Bool) → (brs ≡ true → fdf ≡ true) → (esi ≡ true → fdf ≡ true) → ((brs || esi) && not fdf) ≡ false
+only-fd : (brs esi fdf : Bool) → (brs ≡ true → fdf ≡ true) → (esi ≡ true → fdf ≡ true)
+    → ((brs || esi) && not fdf) ≡ false
 only-fd true esi fdf h k = ap not (h refl)
 only-fd false true fdf h k = ap not (k refl)
 only-fd false false fdf h k = refl
@@ -59,9 +61,15 @@ module _ (f : Frame) (len : ℕ) where
         id = record { within = in-kind (f .xtd) (f .id) (id .0) (id .1) };
         dlc = ltb-false 15 (f .dlc) (dlc .1);
         remote = excludes (f .fdf) (f .rtr) (remote .1);
-        switch = λ h. not-false (f .fdf) (excludes (f .brs || f .esi) (not (f .fdf)) (flags .1) (ap (λ (b : Bool). b || f .esi) h));
-        passive = λ h. not-false (f .fdf) (excludes (f .brs || f .esi) (not (f .fdf)) (flags .1) (or-right (f .brs) (f .esi) h));
-        length = eqb-true len (dataLength (f .rtr) (f .fdf) (f .dlc)) (not-false (eqb len (dataLength (f .rtr) (f .fdf) (f .dlc))) (rest .1));
+        switch =
+            λ h. not-false (f .fdf)
+            (excludes (f .brs || f .esi) (not (f .fdf)) (flags .1) (ap (λ (b : Bool). b || f .esi) h));
+        passive =
+            λ h. not-false (f .fdf)
+            (excludes (f .brs || f .esi) (not (f .fdf)) (flags .1) (or-right (f .brs) (f .esi) h));
+        length =
+            eqb-true len (dataLength (f .rtr) (f .fdf) (f .dlc))
+            (not-false (eqb len (dataLength (f .rtr) (f .fdf) (f .dlc))) (rest .1));
       }
 
   pub not-malformed : WellFormed f len → malformed f len ≡ false

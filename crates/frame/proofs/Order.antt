@@ -60,7 +60,8 @@ value-run x h k (suc n) low w (suc t) rest e d =
     let width : t ≡ n + w = omega arith in
     let y = x / 2 ^ low in
     ap₂ _+_ (ap₂ (λ (i u : ℕ). bit x i * 2 ^ u) place width) (value-run x h (suc k) n low w t rest (omega arith) width)
-    ∙ ap (λ (c : ℕ). c * 2 ^ (n + w) + (y % 2 ^ n * 2 ^ w + value w rest)) (ap (λ (m : ℕ). m % 2) (sym (shr-shr x low n)))
+    ∙ ap (λ (c : ℕ). c * 2 ^ (n + w) + (y % 2 ^ n * 2 ^ w + value w rest))
+    (ap (λ (m : ℕ). m % 2) (sym (shr-shr x low n)))
     ∙ ap (λ (u : ℕ). y / 2 ^ n % 2 * u + (y % 2 ^ n * 2 ^ w + value w rest)) (pow-add 2 n w)
     ∙ digit (y / 2 ^ n % 2) (2 ^ n) (2 ^ w) (y % 2 ^ n) (value w rest)
     ∙ ap (λ (m : ℕ). m * 2 ^ w + value w rest) (sym (mod-pow-add y 1 n) ∙ ap (λ (u : ℕ). y % 2 ^ u) (one-add n))
@@ -112,16 +113,20 @@ compared-bit (suc (suc x)) y h k = absurd (omega arith)
 compared-bit zero (suc (suc y)) h k = absurd (omega arith)
 compared-bit (suc zero) (suc (suc y)) h k = absurd (omega arith)
 
-pub compared-run : (f g : ℕ → ℕ) → ((i : ℕ) → f i < 2) → ((i : ℕ) → g i < 2) → (k n : ℕ) → Compared (run f k n) (run g k n)
+pub compared-run : (f g : ℕ → ℕ) → ((i : ℕ) → f i < 2) → ((i : ℕ) → g i < 2) → (k n : ℕ)
+    → Compared (run f k n) (run g k n)
 unfolding run
 compared-run f g h j k zero = same refl
 compared-run f g h j k (suc n) =
-    compared-append (run f (suc k) n) (run g (suc k) n) (compared-bit (f k) (g k) (h k) (j k)) (compared-run f g h j (suc k) n)
+    compared-append (run f (suc k) n) (run g (suc k) n) (compared-bit (f k) (g k) (h k) (j k))
+    (compared-run f g h j (suc k) n)
 
 -- so lists that can be compared are ordered as their values are
-pub ordered : (w : ℕ) {a b : List ℕ} {m n : ℕ} → Binary a → Binary b → length a ≤ w → length b ≤ w → value w a ≡ m → value w b ≡ n → Compared a b
+pub ordered : (w : ℕ) {a b : List ℕ} {m n : ℕ} → Binary a → Binary b → length a ≤ w → length b ≤ w → value w a ≡ m
+    → value w b ≡ n → Compared a b
     → (m < n ↔ Wins a b) × (m ≡ n ↔ a ≡ b)
-ordered w {a} {b} {m} {n} p q h k d e c = ((smaller c, λ r. omega (arith, wins-value w p r h)), (equal c, λ i. sym d ∙ ap (value w) i ∙ e))
+ordered w {a} {b} {m} {n} p q h k d e c =
+    ((smaller c, λ r. omega (arith, wins-value w p r h)), (equal c, λ i. sym d ∙ ap (value w) i ∙ e))
   where
     smaller : Compared a b → m < n → Wins a b
     smaller (same i) l = absurd (omega (arith, ap (value w) i))

@@ -36,6 +36,7 @@ module _ (xtd rtr : Bool) (id remote : ℕ) (e : remote ≡ pick rtr 1 0) where
 
 pub ruleset afters = (after-long, after-short)
 
-pub rank-parts : (xtd rtr : Bool) (id b a : ℕ) → b ≡ baseId xtd id → a ≡ afterBase xtd rtr id → b * 2 ^ 21 + a ≡ rank xtd rtr id
+pub rank-parts : (xtd rtr : Bool) (id b a : ℕ) → b ≡ baseId xtd id → a ≡ afterBase xtd rtr id
+    → b * 2 ^ 21 + a ≡ rank xtd rtr id
 unfolding rank
 rank-parts xtd rtr id b a p q = ap₂ (λ (x y : ℕ). x * 2 ^ 21 + y) p q

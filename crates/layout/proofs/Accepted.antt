@@ -22,23 +22,28 @@ use Rattle.registers.specs.Fields.{dedicated, shared}
 use Rattle.registers.specs.Given.{allNamed}
 use Rattle.registers.specs.declared.Registers.{Registers}
 use Rattle.layout.specs.Sections.{none, sectionsOf}
-use Rattle.layout.specs.Verdict.{plain, over, firstWith, countRule, txRule, end, past, endRule, shares, partner, hasPartner, pairRule, rules, verdict}
+use Rattle.layout.specs.Verdict.{plain, over, firstWith, countRule, txRule, end, past, endRule, shares, partner}
+use Rattle.layout.specs.Verdict.{hasPartner, pairRule, rules, verdict}
 use Rattle.layout.specs.Legal.{Named, Counted, Has, Legal}
 use Rattle.layout.specs.Promises.{AcceptedIsLegal}
 use Rattle.layout.specs.declared.sections.Section.{Section}
 use Rattle.layout.proofs.Table.{Within, has-within, within-has, empty-or-some}
 
 -- a search of the seven sections that refuses nothing has found no fault
-pub none-with : (n : ℕ) (fault : ℕ → Bool) → firstWith n fault ≡ allowed → (i : ℕ) → i < 7 → fault i ≡ false
-none-with n fault e i h = least-below fault 0 7 i (omega arith) (omega (arith, ltb-false (leastFrom fault 0 7) 7 (held-off _ (names n (leastFrom fault 0 7) 7) e)))
+none-with : (n : ℕ) (fault : ℕ → Bool) → firstWith n fault ≡ allowed → (i : ℕ) → i < 7 → fault i ≡ false
+none-with n fault e i h =
+    least-below fault 0 7 i (omega arith)
+    (omega (arith, ltb-false (leastFrom fault 0 7) 7 (held-off _ (names n (leastFrom fault 0 7) 7) e)))
 
 with-none : (n : ℕ) (fault : ℕ → Bool) → ((i : ℕ) → i < 7 → fault i ≡ false) → firstWith n fault ≡ allowed
 with-none n fault h =
-    let-pass (names n (leastFrom fault 0 7) 7) (le-ltb (leastFrom fault 0 7) 7 (omega (arith, least-absent fault 0 7 (λ j a b. h j (omega arith)))))
+    let-pass (names n (leastFrom fault 0 7) 7)
+    (le-ltb (leastFrom fault 0 7) 7 (omega (arith, least-absent fault 0 7 (λ j a b. h j (omega arith)))))
 
 -- 11
 words-of : (a b c d e f g h i j k : Bool) → (a && b && c && d && e && f && g && h && i && j && k) ≡ true
-    → (a ≡ true) × (b ≡ true) × (c ≡ true) × (d ≡ true) × (e ≡ true) × (f ≡ true) × (g ≡ true) × (h ≡ true) × (i ≡ true) × (j ≡ true) × (k ≡ true)
+    → (a ≡ true) × (b ≡ true) × (c ≡ true) × (d ≡ true) × (e ≡ true) × (f ≡ true) × (g ≡ true) × (h ≡ true) × (i ≡ true)
+    × (j ≡ true) × (k ≡ true)
 words-of a b c d e f g h i j k p =
     let q10 = and-both (a && b && c && d && e && f && g && h && i && j) k p in
     let q9 = and-both (a && b && c && d && e && f && g && h && i) j (q10 .0) in
@@ -56,7 +61,11 @@ module _ (r : Registers) where
   named : allNamed r ≡ true → Named r
   unfolding agrees below32
   named e =
-      let w = words-of (onlyNamed sidfc (r .sidfc .word)) (onlyNamed xidfc (r .xidfc .word)) (onlyNamed rxfc (r .rxf0c .word)) (onlyNamed rxfc (r .rxf1c .word)) (onlyNamed rxbc (r .rxbc .word)) (onlyNamed rxesc (r .rxesc .word)) (onlyNamed txefc (r .txefc .word)) (onlyNamed txbc (r .txbc .word)) (onlyNamed txesc (r .txesc .word)) (onlyNamed gfc (r .gfc .word)) (onlyNamed xidam (r .xidam .word)) e in
+      let w =
+      words-of (onlyNamed sidfc (r .sidfc .word)) (onlyNamed xidfc (r .xidfc .word)) (onlyNamed rxfc (r .rxf0c .word))
+      (onlyNamed rxfc (r .rxf1c .word)) (onlyNamed rxbc (r .rxbc .word)) (onlyNamed rxesc (r .rxesc .word))
+      (onlyNamed txefc (r .txefc .word)) (onlyNamed txbc (r .txbc .word)) (onlyNamed txesc (r .txesc .word))
+      (onlyNamed gfc (r .gfc .word)) (onlyNamed xidam (r .xidam .word)) e in
       record {
         sidfc = unnamed sidfc tt tt tt _ .0 (eqb-true _ _ (w .0));
         xidfc = unnamed xidfc tt tt tt _ .0 (eqb-true _ _ (w .1));
@@ -111,7 +120,8 @@ module _ (r : Registers) where
   within-most h (suc (suc (suc zero))) l = le-ltb _ _ (h .fifo1)
   within-most h (suc (suc (suc (suc zero)))) l = le-ltb _ _ (h .buffers)
   within-most h (suc (suc (suc (suc (suc zero))))) l = le-ltb _ _ (h .events)
-  within-most h (suc (suc (suc (suc (suc (suc zero)))))) l = ap₂ _||_ (le-ltb _ _ (h .dedicated)) (le-ltb _ _ (h .shared))
+  within-most h (suc (suc (suc (suc (suc (suc zero)))))) l =
+      ap₂ _||_ (le-ltb _ _ (h .dedicated)) (le-ltb _ _ (h .shared))
   within-most h (suc (suc (suc (suc (suc (suc (suc i))))))) l = absurd (omega arith)
 
 -- 15: two sections share a word where some word is in both
@@ -120,8 +130,11 @@ apart-words a b e k p q = omega (arith, ltb-false (max (a .start .0) (b .start .
 
 pub shared-word : (a b : Section) → shares a b ≡ true → (k : ℕ) × Within a k × Within b k
 shared-word a b e =
-    let l = ltb-true (max (a .start .0) (b .start .0)) (min (end a) (end b)) e in
-    (max (a .start .0) (b .start .0), record { from = omega arith; below = omega arith }, record { from = omega arith; below = omega arith })
+    let l = ltb-true (max (a .start .0) (b .start .0)) (min (end a) (end b)) e in (
+      max (a .start .0) (b .start .0),
+      record { from = omega arith; below = omega arith },
+      record { from = omega arith; below = omega arith },
+    )
 
 words-apart : (a b : Section) → ((k : ℕ) → Within a k → Within b k → ⊥) → shares a b ≡ false
 words-apart a b h = go (shares a b) refl
@@ -131,33 +144,50 @@ words-apart a b h = go (shares a b) refl
     go false e = refl
 
 module _ (ss : List Section) where
-  pub no-partner : (i : ℕ) → hasPartner ss i ≡ false → (j : ℕ) → i < j → j < 7 → shares (getD ss i none) (getD ss j none) ≡ false
+  pub no-partner : (i : ℕ) → hasPartner ss i ≡ false → (j : ℕ) → i < j → j < 7
+      → shares (getD ss i none) (getD ss j none) ≡ false
   unfolding partner
-  no-partner i e j h l = least-below (λ k. shares (getD ss i none) (getD ss k none)) (i + 1) (7 - (i + 1)) j (omega arith) (omega (arith, ltb-false (partner ss i) 7 e))
+  no-partner i e j h l =
+      least-below (λ k. shares (getD ss i none) (getD ss k none)) (i + 1) (7 - (i + 1)) j (omega arith)
+      (omega (arith, ltb-false (partner ss i) 7 e))
 
-  partnerless : (i : ℕ) → i < 7 → ((j : ℕ) → i < j → j < 7 → shares (getD ss i none) (getD ss j none) ≡ false) → hasPartner ss i ≡ false
+  partnerless : (i : ℕ) → i < 7 → ((j : ℕ) → i < j → j < 7 → shares (getD ss i none) (getD ss j none) ≡ false)
+      → hasPartner ss i ≡ false
   unfolding partner
   partnerless i h f =
-      le-ltb (partner ss i) 7 (omega (arith, least-absent (λ k. shares (getD ss i none) (getD ss k none)) (i + 1) (7 - (i + 1)) (λ j a b. f j (omega arith) (omega arith))))
+      le-ltb (partner ss i) 7
+      (omega (
+        arith,
+        least-absent (λ k. shares (getD ss i none) (getD ss k none)) (i + 1) (7 - (i + 1))
+            (λ j a b. f j (omega arith) (omega arith)),
+      ))
 
 module _ (r : Registers) (words : ℕ) where
   inside : endRule words (sectionsOf r) ≡ allowed → (i k : ℕ) → i < 7 → Has r i k → k < words
   inside e i k h w =
       let v = has-within r i k w in
-      omega (arith, v .below, ltb-false words (end (getD (sectionsOf r) i none)) (none-with 14 (past words (sectionsOf r)) e i h))
+      omega (
+        arith,
+        v .below,
+        ltb-false words (end (getD (sectionsOf r) i none)) (none-with 14 (past words (sectionsOf r)) e i h),
+      )
 
   put-inside : ((i k : ℕ) → i < 7 → Has r i k → k < words) → (i : ℕ) → i < 7 → past words (sectionsOf r) i ≡ false
   put-inside f i h =
-      le-ltb words (end (getD (sectionsOf r) i none)) (⊎-elim (λ e. omega (arith, ap end e)) (λ l. omega (arith, last l)) (empty-or-some r i h))
+      le-ltb words (end (getD (sectionsOf r) i none))
+      (⊎-elim (λ e. omega (arith, ap end e)) (λ l. omega (arith, last l)) (empty-or-some r i h))
     where
       last : 0 < getD (sectionsOf r) i none .words → end (getD (sectionsOf r) i none) - 1 < words
-      last l = f i (end (getD (sectionsOf r) i none) - 1) h (within-has r i (end (getD (sectionsOf r) i none) - 1) (record { from = omega arith; below = omega arith }))
+      last l =
+          f i (end (getD (sectionsOf r) i none) - 1) h
+          (within-has r i (end (getD (sectionsOf r) i none) - 1) (record { from = omega arith; below = omega arith }))
 
   apart : pairRule (sectionsOf r) ≡ allowed → (i j k : ℕ) → i < j → j < 7 → Has r i k → Has r j k → ⊥
   apart e i j k h l v w =
       apart-words (getD (sectionsOf r) i none) (getD (sectionsOf r) j none)
       (no-partner (sectionsOf r) i
-      (least-below (hasPartner (sectionsOf r)) 0 7 i (omega arith) (omega (arith, ltb-false (leastFrom (hasPartner (sectionsOf r)) 0 7) 7 (held-off _ _ e)))) j h l) k
+      (least-below (hasPartner (sectionsOf r)) 0 7 i (omega arith)
+      (omega (arith, ltb-false (leastFrom (hasPartner (sectionsOf r)) 0 7) 7 (held-off _ _ e)))) j h l) k
       (has-within r i k v)
       (has-within r j k w)
 
@@ -204,21 +234,32 @@ pub accepted-is-legal : AcceptedIsLegal
 accepted-is-legal given r words = (to-legal given r words, from-legal given r words)
 
 -- a legal section ends within the memory
-pub ends-inside : (given : ℕ) (r : Registers) (words : ℕ) → Legal given r words → (i : ℕ) → i < 7 → end (getD (sectionsOf r) i none) ≤ words
-ends-inside given r words h i l = ltb-false words (end (getD (sectionsOf r) i none)) (put-inside r words (h .inside) i l)
+pub ends-inside : (given : ℕ) (r : Registers) (words : ℕ) → Legal given r words → (i : ℕ) → i < 7
+    → end (getD (sectionsOf r) i none) ≤ words
+ends-inside given r words h i l =
+    ltb-false words (end (getD (sectionsOf r) i none)) (put-inside r words (h .inside) i l)
 
 -- of two legal sections one ends before the other starts
 pub sections-apart : (given : ℕ) (r : Registers) (words : ℕ) → Legal given r words → (i j : ℕ) → i < j → j < 7
-    → (end (getD (sectionsOf r) i none) ≤ getD (sectionsOf r) j none .start .0) ⊎ (end (getD (sectionsOf r) j none) ≤ getD (sectionsOf r) i none .start .0)
+    → (end (getD (sectionsOf r) i none) ≤ getD (sectionsOf r) j none .start .0)
+    ⊎ (end (getD (sectionsOf r) j none) ≤ getD (sectionsOf r) i none .start .0)
 sections-apart given r words h i j l m =
-    side (getD (sectionsOf r) i none) (getD (sectionsOf r) j none) (empty-or-some r i (omega arith)) (empty-or-some r j m)
+    side (getD (sectionsOf r) i none) (getD (sectionsOf r) j none) (empty-or-some r i (omega arith))
+    (empty-or-some r j m)
     (words-apart _ _ (λ k v w. h .apart i j k l m (within-has r i k v) (within-has r j k w)))
   where
-    side : (a b : Section) → (a ≡ none) ⊎ (0 < a .words) → (b ≡ none) ⊎ (0 < b .words) → shares a b ≡ false → (end a ≤ b .start .0) ⊎ (end b ≤ a .start .0)
+    side : (a b : Section) → (a ≡ none) ⊎ (0 < a .words) → (b ≡ none) ⊎ (0 < b .words) → shares a b ≡ false
+        → (end a ≤ b .start .0) ⊎ (end b ≤ a .start .0)
     side a b (inl e) y f = inl (omega (arith, ap end e))
     side a b (inr x) (inl e) f = inr (omega (arith, ap end e))
     side a b (inr x) (inr y) f = go (leb (end a) (b .start .0)) refl
       where
         go : (t : Bool) → leb (end a) (b .start .0) ≡ t → (end a ≤ b .start .0) ⊎ (end b ≤ a .start .0)
         go true e = inl (leb-true (end a) (b .start .0) e)
-        go false e = inr (omega (arith, leb-false (end a) (b .start .0) e, ltb-false (max (a .start .0) (b .start .0)) (min (end a) (end b)) f))
+        go false e =
+            inr
+            (omega (
+              arith,
+              leb-false (end a) (b .start .0) e,
+              ltb-false (max (a .start .0) (b .start .0)) (min (end a) (end b)) f,
+            ))

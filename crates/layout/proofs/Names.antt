@@ -26,20 +26,24 @@ number-of : (t : Bool) (b a : Refusal) → refuseIf t b ≡ refused a → b .num
 number-of t b a e = ap (λ (x : Refusal). x .number) (refused-by t b a e .1)
 
 -- rule k refuses with number 10 + k
-numbered : (given : ℕ) (r : Registers) (words k : ℕ) (a : Refusal) → getD (rules given r words) k allowed ≡ refused a → 10 + k ≡ a .number
+numbered : (given : ℕ) (r : Registers) (words k : ℕ) (a : Refusal)
+    → getD (rules given r words) k allowed ≡ refused a → 10 + k ≡ a .number
 numbered given r words zero a e = number-of (not (eqb words given)) (plain 10) a e
 numbered given r words (suc zero) a e = number-of (not (allNamed r)) (plain 11) a e
-numbered given r words (suc (suc zero)) a e = number-of (ltb (leastFrom (over r) 0 7) 7) (names 12 (leastFrom (over r) 0 7) 7) a e
+numbered given r words (suc (suc zero)) a e =
+    number-of (ltb (leastFrom (over r) 0 7) 7) (names 12 (leastFrom (over r) 0 7) 7) a e
 numbered given r words (suc (suc (suc zero))) a e = number-of (ltb 32 (txCount r)) (plain 13) a e
 numbered given r words (suc (suc (suc (suc zero)))) a e =
-    number-of (ltb (leastFrom (past words (sectionsOf r)) 0 7) 7) (names 14 (leastFrom (past words (sectionsOf r)) 0 7) 7) a e
+    number-of (ltb (leastFrom (past words (sectionsOf r)) 0 7) 7)
+    (names 14 (leastFrom (past words (sectionsOf r)) 0 7) 7) a e
 numbered given r words (suc (suc (suc (suc (suc zero))))) a e =
     let i = leastFrom (hasPartner (sectionsOf r)) 0 7 in
     number-of (ltb i 7) (names 15 i (partner (sectionsOf r) i)) a e
 numbered given r words (suc (suc (suc (suc (suc (suc k)))))) a e = let z : _≡_ {A = ℕ} 0 1 = cc in absurd (omega arith)
 
 -- so a refusal comes from the rule of its number
-rule-of : (given : ℕ) (r : Registers) (words k : ℕ) (a : Refusal) → a .number ≡ 10 + k → verdict given r words ≡ refused a → getD (rules given r words) k allowed ≡ refused a
+rule-of : (given : ℕ) (r : Registers) (words k : ℕ) (a : Refusal) → a .number ≡ 10 + k
+    → verdict given r words ≡ refused a → getD (rules given r words) k allowed ≡ refused a
 rule-of given r words k a n e =
     let d = first-refused (rules given r words) a (sym (verdict-rules given r words) ∙ e) in
     let same : d .0 ≡ k = omega (arith, numbered given r words (d .0) a (d .1 .1)) in
@@ -79,11 +83,15 @@ end-names-first given r words i e =
     record {
       section = f .inside;
       here = (end s - 1, omega arith, within-has r i (end s - 1) (last i (f .inside) l));
-      before = λ j k h w. omega (arith, has-within r j k w .below, ltb-false words (end (getD ss j none)) (f .before j h));
+      before =
+          λ j k h w. omega (arith, has-within r j k w .below, ltb-false words (end (getD ss j none)) (f .before j h));
     }
   where
-    last : (i : ℕ) → i < 7 → words < end (getD (sectionsOf r) i none) → Within (getD (sectionsOf r) i none) (end (getD (sectionsOf r) i none) - 1)
-    last i h l = ⊎-elim (λ e. absurd (omega (arith, ap end e))) (λ m. record { from = omega arith; below = omega arith }) (empty-or-some r i h)
+    last : (i : ℕ) → i < 7 → words < end (getD (sectionsOf r) i none)
+        → Within (getD (sectionsOf r) i none) (end (getD (sectionsOf r) i none) - 1)
+    last i h l =
+        ⊎-elim (λ e. absurd (omega (arith, ap end e))) (λ m. record { from = omega arith; below = omega arith })
+        (empty-or-some r i h)
 
 abbrev other : Refusal → ℕ
 other a = a .other
@@ -98,11 +106,20 @@ overlap-names-first given r words i j e =
     let p : partner ss i ≡ j = ap (partner ss) (sym m) ∙ ap other (b .1) in
     let has : hasPartner ss i ≡ true = ap (hasPartner ss) (sym m) ∙ least-passes (hasPartner ss) 0 7 l in
     let k = ltb-true (partner ss i) 7 has in
-    let here = shared-word (getD ss i none) (getD ss j none) (ap (λ (x : ℕ). shares (getD ss i none) (getD ss x none)) (sym p) ∙ least-passes (λ x. shares (getD ss i none) (getD ss x none)) (i + 1) (7 - (i + 1)) (omega arith)) in
+    let here =
+    shared-word (getD ss i none) (getD ss j none)
+    (ap (λ (x : ℕ). shares (getD ss i none) (getD ss x none)) (sym p)
+    ∙ least-passes (λ x. shares (getD ss i none) (getD ss x none)) (i + 1) (7 - (i + 1)) (omega arith)) in
     record {
       order = omega (arith, least-from (λ x. shares (getD ss i none) (getD ss x none)) (i + 1) (7 - (i + 1)));
       section = omega arith;
       here = (here .0, within-has r i (here .0) (here .1), within-has r j (here .0) (here .2));
-      lower = λ a c x h g q v w. apart-words _ _ (no-partner ss a (least-below (hasPartner ss) 0 7 a (omega arith) (omega arith)) c g q) x (has-within r a x v) (has-within r c x w);
-      higher = λ c x h g v w. apart-words _ _ (least-below (λ y. shares (getD ss i none) (getD ss y none)) (i + 1) (7 - (i + 1)) c (omega arith) (omega arith)) x (has-within r i x v) (has-within r c x w);
+      lower =
+          λ a c x h g q v w. apart-words _ _
+          (no-partner ss a (least-below (hasPartner ss) 0 7 a (omega arith) (omega arith)) c g q) x (has-within r a x v)
+          (has-within r c x w);
+      higher =
+          λ c x h g v w. apart-words _ _
+          (least-below (λ y. shares (getD ss i none) (getD ss y none)) (i + 1) (7 - (i + 1)) c (omega arith)
+          (omega arith)) x (has-within r i x v) (has-within r c x w);
     }

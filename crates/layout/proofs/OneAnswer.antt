@@ -8,7 +8,8 @@ use Rattle.shape.specs.Refusals.{Refusal}
 use Rattle.layout.specs.Verdict.{meaning}
 use Rattle.layout.specs.Promises.{OneAnswer}
 use Rattle.layout.specs.declared.check.Verdict.{Verdict}
-use Rattle.layout.specs.declared.check.Verdict.the-variants.{Accepted, WrongMemory, UnnamedBit, CountOver, TxOver, PastMemory, Overlap}
+use Rattle.layout.specs.declared.check.Verdict.the-variants.{Accepted, WrongMemory, UnnamedBit, CountOver, TxOver}
+use Rattle.layout.specs.declared.check.Verdict.the-variants.{PastMemory, Overlap}
 
 -- the answer that has a meaning
 answer : Ruling Refusal → Verdict

@@ -1,6 +1,6 @@
--- The cases of the verdict, one law each.
+-- The cases of a section and of the verdict, one law each.
 -- Assumes nothing.
-use Prim.Native.Nat.{ℕ, _+_, _*_, _≤_, _<_}
+use Prim.Native.Nat.{ℕ, _*_, _≤_, _<_}
 use mathlib.Core.Path.{_≡_, refl, sym, ap, _∙_}
 use mathlib.Core.Bool.{Bool, true, false, not}
 use mathlib.Core.List.{List, [], _∷_}
@@ -16,29 +16,45 @@ use Rattle.registers.specs.Fields.{txCount}
 use Rattle.registers.specs.Given.{allNamed}
 use Rattle.registers.specs.declared.Registers.{Registers}
 use Rattle.layout.specs.Sections.{none, section, sectionsOf, overMost}
-use Rattle.layout.specs.Verdict.{plain, meaning, over, past, bitsRule, countRule, txRule, endRule, pairRule, verdict}
+use Rattle.layout.specs.Verdict.{plain, meaning, firstWith, over, past, verdict}
+use Rattle.layout.specs.Verdict.{bitsRule, countRule, txRule, endRule, pairRule}
 use Rattle.layout.specs.declared.sections.Section.{Section}
 use Rattle.layout.specs.declared.check.Verdict.{Verdict}
-use Rattle.layout.specs.declared.check.Verdict.the-variants.{WrongMemory, UnnamedBit, CountOver, TxOver, PastMemory}
+use Rattle.layout.specs.declared.check.Verdict.the-variants.{WrongMemory, UnnamedBit, CountOver}
+use Rattle.layout.specs.declared.check.Verdict.the-variants.{TxOver, PastMemory}
 
 pub section-none : (start count each : ℕ) (s : Section) → count ≡ 0 → s ≡ none → s ≡ section start count each
 unfolding section
 section-none start count each s e p = simp (eq-eqb _ _ e, p)
 
-pub section-some : (start count each : ℕ) → (count ≡ 0 → ⊥) → record { start = record { 0 = start }; words = count * each } ≡ section start count each
+pub section-some : (start count each : ℕ) → (count ≡ 0 → ⊥)
+    → record { start = record { 0 = start }; words = count * each } ≡ section start count each
 unfolding section
 section-some start count each h = simp (ne-eqb _ _ h)
+
+-- a search for the first of the seven sections with a fault: it found one, or none
+module _ (n : ℕ) (fault : ℕ → Bool) (i : ℕ) (e : i ≡ leastFrom fault 0 7) where
+  found-with : i < 7 → firstWith n fault ≡ refused (names n i 7)
+  found-with h =
+      turned-down (names n (leastFrom fault 0 7) 7) (lt-ltb (leastFrom fault 0 7) 7 (omega arith))
+      ∙ ap (λ (k : ℕ). refused (names n k 7)) (sym e)
+
+  none-found : 7 ≤ i → firstWith n fault ≡ allowed
+  none-found h = let-pass (names n (leastFrom fault 0 7) 7) (le-ltb (leastFrom fault 0 7) 7 (omega arith))
 
 -- the first count that is over its most, from the flags of all seven
 abbrev trueAt : List Bool → ℕ → Bool
 trueAt flags i = getD flags i false
 
-first-over : (r : Registers) (flags : List Bool) (n : ℕ) → flags ≡ overMost r → n ≡ leastFrom (trueAt flags) 0 7 → n ≡ leastFrom (over r) 0 7
+first-over : (r : Registers) (flags : List Bool) (n : ℕ) → flags ≡ overMost r → n ≡ leastFrom (trueAt flags) 0 7
+    → n ≡ leastFrom (over r) 0 7
 first-over r flags n f e = e ∙ ap (λ (x : List Bool). leastFrom (trueAt x) 0 7) f
 
 -- where no count is over its most, the Rx buffers are at most 64
-pub few-buffers : (r : Registers) (flags : List Bool) (n : ℕ) → flags ≡ overMost r → n ≡ leastFrom (trueAt flags) 0 7 → 7 ≤ n → r .buffers ≤ 64
-few-buffers r flags n f e h = ltb-false 64 (r .buffers) (least-below (over r) 0 7 4 (omega arith) (omega (arith, first-over r flags n f e)))
+pub few-buffers : (r : Registers) (flags : List Bool) (n : ℕ) → flags ≡ overMost r
+    → n ≡ leastFrom (trueAt flags) 0 7 → 7 ≤ n → r .buffers ≤ 64
+few-buffers r flags n f e h =
+    ltb-false 64 (r .buffers) (least-below (over r) 0 7 4 (omega arith) (omega (arith, first-over r flags n f e)))
 
 -- what is left of the verdict from a number on
 abbrev from15 : Registers → Ruling Refusal
@@ -83,19 +99,19 @@ module _ (given : ℕ) (r : Registers) (len : ℕ) where
           q = first-over r flags n f g
 
           pub says-12 : n < 7 → meaning (CountOver n) ≡ verdict given r len
-          says-12 h =
-              ap (λ (k : ℕ). refused (names 12 k 7)) q
-              ∙ sym (at-12 ∙ halted (from13 r len) (turned-down (names 12 (leastFrom (over r) 0 7) 7) (lt-ltb (leastFrom (over r) 0 7) 7 (omega (arith, q)))))
+          says-12 h = sym (at-12 ∙ halted (from13 r len) (found-with 12 (over r) n q h))
 
           module _ (h : 7 ≤ n) where
             at-13 : verdict given r len ≡ from13 r len
-            at-13 = at-12 ∙ passed (from13 r len) (let-pass (names 12 (leastFrom (over r) 0 7) 7) (le-ltb (leastFrom (over r) 0 7) 7 (omega (arith, q))))
+            at-13 = at-12 ∙ passed (from13 r len) (none-found 12 (over r) n q h)
 
             module _ (t : ℕ) (u : t ≡ txCount r) where
               pub says-13 : 32 < t → meaning TxOver ≡ verdict given r len
-              says-13 l = sym (at-13 ∙ halted (from14 r len) (turned-down (plain 13) (lt-ltb 32 (txCount r) (omega arith))))
+              says-13 l =
+                  sym (at-13 ∙ halted (from14 r len) (turned-down (plain 13) (lt-ltb 32 (txCount r) (omega arith))))
 
-              module _ (l : t ≤ 32) (ss : List Section) (z : ss ≡ sectionsOf r) (m : ℕ) (w : m ≡ leastFrom (past len ss) 0 7) where
+              module _ (l : t ≤ 32) (ss : List Section) (z : ss ≡ sectionsOf r) (m : ℕ)
+                  (w : m ≡ leastFrom (past len ss) 0 7) where
                 at-14 : verdict given r len ≡ from14 r len
                 at-14 = at-13 ∙ passed (from14 r len) (let-pass (plain 13) (le-ltb 32 (txCount r) (omega arith)))
 
@@ -103,9 +119,7 @@ module _ (given : ℕ) (r : Registers) (len : ℕ) where
                 first-past = w ∙ ap (λ (x : List Section). leastFrom (past len x) 0 7) z
 
                 pub says-14 : m < 7 → meaning (PastMemory m) ≡ verdict given r len
-                says-14 k =
-                    ap (λ (x : ℕ). refused (names 14 x 7)) first-past
-                    ∙ sym (at-14 ∙ halted (from15 r) (turned-down (names 14 (leastFrom (past len (sectionsOf r)) 0 7) 7) (lt-ltb (leastFrom (past len (sectionsOf r)) 0 7) 7 (omega (arith, first-past)))))
+                says-14 k = sym (at-14 ∙ halted (from15 r) (found-with 14 (past len (sectionsOf r)) m first-past k))
 
                 pub says-15 : 7 ≤ m → (x : Verdict) → meaning x ≡ pairRule ss → meaning x ≡ verdict given r len
                 says-15 k x y =
@@ -113,5 +127,5 @@ module _ (given : ℕ) (r : Registers) (len : ℕ) where
                     ∙ ap pairRule z
                     ∙ sym
                     (at-14
-                    ∙ passed (from15 r) (let-pass (names 14 (leastFrom (past len (sectionsOf r)) 0 7) 7) (le-ltb (leastFrom (past len (sectionsOf r)) 0 7) 7 (omega (arith, first-past))))
+                    ∙ passed (from15 r) (none-found 14 (past len (sectionsOf r)) m first-past k)
                     ∙ alone (pairRule (sectionsOf r)))

@@ -13,7 +13,8 @@ use lib.ListN.{getD, List·getD-map}
 use Rattle.words.specs.Choice.{pick}
 use Rattle.words.proofs.Tables.{every, every-at}
 use Rattle.frame.specs.Sizes.{elementWords}
-use Rattle.registers.specs.Fields.{fifoStart, fifoSize, fifoCode, buffersStart, buffers, bufferCode, txStart, txCount, txCode}
+use Rattle.registers.specs.Fields.{fifoStart, fifoSize, fifoCode, buffersStart, buffers, bufferCode}
+use Rattle.registers.specs.Fields.{txStart, txCount, txCode}
 use Rattle.registers.proofs.Fifos.{code-lt}
 use Rattle.registers.specs.declared.Registers.{Registers}
 use Rattle.layout.specs.Sections.{none, section, filters11Section, filters29Section, eventSection, sectionsOf}
@@ -25,7 +26,8 @@ use Rattle.layout.specs.declared.sections.Section.{Section}
 sizes-agree : (code : ℕ) → code < 8 → wordsBySize code ≡ elementWords code
 unfolding every
 sizes-agree code h =
-    eqb→eq (wordsBySize code) (elementWords code) (every-at (λ i x. eqb (wordsBySize i) x) (4 ∷ 5 ∷ 6 ∷ 7 ∷ 8 ∷ 10 ∷ 14 ∷ 18 ∷ []) tt code h)
+    eqb→eq (wordsBySize code) (elementWords code)
+    (every-at (λ i x. eqb (wordsBySize i) x) (4 ∷ 5 ∷ 6 ∷ 7 ∷ 8 ∷ 10 ∷ 14 ∷ 18 ∷ []) tt code h)
 
 ofRow : SectionRow → Section
 ofRow w = section (w .start) (w .count) (w .each)
@@ -53,16 +55,23 @@ module _ (r : Registers) where
       λ i. lay r (a i) (b i) (c i) (d i)
 
   -- section i, from its row
-  pub section-row : (i : ℕ) → getD (sectionsOf r) i none ≡ section (rowOf r i .start) (rowOf r i .count) (rowOf r i .each)
+  section-row : (i : ℕ)
+      → getD (sectionsOf r) i none ≡ section (rowOf r i .start) (rowOf r i .count) (rowOf r i .each)
   unfolding ofRow section
-  section-row i = ap (λ (ss : List Section). getD ss i none) (sym sections-rows) ∙ List·getD-map ofRow (sectionTable r) i (sectionRow 0 0 0)
+  section-row i =
+      ap (λ (ss : List Section). getD ss i none) (sym sections-rows)
+      ∙ List·getD-map ofRow (sectionTable r) i (sectionRow 0 0 0)
+
+-- a section that has words
+abbrev laid : ℕ → ℕ → ℕ → Section
+laid start count each = record { start = record { 0 = start }; words = count * each }
 
 -- a section's words are those of its elements
 pub section-words : (start count each : ℕ) → section start count each .words ≡ count * each
 unfolding section
 section-words start count each = go (eqb count 0) refl
   where
-    go : (t : Bool) → eqb count 0 ≡ t → pick t none (record { start = record { 0 = start }; words = count * each }) .words ≡ count * each
+    go : (t : Bool) → eqb count 0 ≡ t → pick t none (laid start count each) .words ≡ count * each
     go true e = omega (arith, ap (λ (n : ℕ). n * each) (eqb-true count 0 e))
     go false e = refl
 
@@ -76,7 +85,7 @@ module _ (start count each k : ℕ) where
   unfolding section
   within a b = go (eqb count 0) refl
     where
-      go : (t : Bool) → eqb count 0 ≡ t → Within (pick t none (record { start = record { 0 = start }; words = count * each })) k
+      go : (t : Bool) → eqb count 0 ≡ t → Within (pick t none (laid start count each)) k
       go true e = let z = eqb-true count 0 e in absurd (omega (arith, ap (λ (n : ℕ). n * each) z))
       go false e = record { from = a; below = b }
 
@@ -84,7 +93,7 @@ module _ (start count each k : ℕ) where
   unfolding section
   without = go (eqb count 0)
     where
-      go : (t : Bool) → Within (pick t none (record { start = record { 0 = start }; words = count * each })) k → (start ≤ k) × (k < start + count * each)
+      go : (t : Bool) → Within (pick t none (laid start count each)) k → (start ≤ k) × (k < start + count * each)
       go true w = absurd (omega (arith, w .below))
       go false w = (w .from, w .below)
 
@@ -94,16 +103,20 @@ unfolding section
 some start count each h = go (eqb count 0) refl
   where
     go : (t : Bool) → eqb count 0 ≡ t
-        → (pick t none (record { start = record { 0 = start }; words = count * each }) ≡ none) ⊎ (0 < pick t none (record { start = record { 0 = start }; words = count * each }) .words)
+        → (pick t none (laid start count each) ≡ none)
+        ⊎ (0 < pick t none (laid start count each) .words)
     go true e = inl refl
-    go false e = let n = eqb-false count 0 e in let l : 1 ≤ count = omega arith in inr (omega (arith, mul-le-mul-right each l))
+    go false e =
+        let n = eqb-false count 0 e in let l : 1 ≤ count = omega arith in inr (omega (arith, mul-le-mul-right each l))
 
 module _ (r : Registers) where
   pub has-within : (i k : ℕ) → Has r i k → Within (getD (sectionsOf r) i none) k
   has-within i k h = subst (λ (s : Section). Within s k) (sym (section-row r i)) (within _ _ _ k (h .from) (h .below))
 
   pub within-has : (i k : ℕ) → Within (getD (sectionsOf r) i none) k → Has r i k
-  within-has i k w = let p = without _ _ _ k (subst (λ (s : Section). Within s k) (section-row r i) w) in record { from = p .0; below = p .1 }
+  within-has i k w =
+      let p = without _ _ _ k (subst (λ (s : Section). Within s k) (section-row r i) w) in
+      record { from = p .0; below = p .1 }
 
   each-some : (i : ℕ) → i < 7 → 0 < rowOf r i .each
   each-some zero h = omega arith
@@ -116,4 +129,5 @@ module _ (r : Registers) where
   each-some (suc (suc (suc (suc (suc (suc (suc i))))))) h = absurd (omega arith)
 
   pub empty-or-some : (i : ℕ) → i < 7 → (getD (sectionsOf r) i none ≡ none) ⊎ (0 < getD (sectionsOf r) i none .words)
-  empty-or-some i h = subst (λ (s : Section). (s ≡ none) ⊎ (0 < s .words)) (sym (section-row r i)) (some _ _ _ (each-some i h))
+  empty-or-some i h =
+      subst (λ (s : Section). (s ≡ none) ⊎ (0 < s .words)) (sym (section-row r i)) (some _ _ _ (each-some i h))

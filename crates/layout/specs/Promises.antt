@@ -21,7 +21,8 @@ pub record FirstOver (r : Registers) (i : ℕ) : Type 0 where
   pub before : (j : ℕ) → j < i → over r j ≡ false
 
 abbrev pub CountNamesFirst : Type 0
-CountNamesFirst = (given : ℕ) (r : Registers) (words i : ℕ) → verdict given r words ≡ refused (names 12 i 7) → FirstOver r i
+CountNamesFirst =
+    (given : ℕ) (r : Registers) (words i : ℕ) → verdict given r words ≡ refused (names 12 i 7) → FirstOver r i
 
 -- the section that 14 names has a word that is not in the memory, and none before it has
 pub record FirstPast (r : Registers) (words i : ℕ) : Type 0 where
@@ -30,9 +31,10 @@ pub record FirstPast (r : Registers) (words i : ℕ) : Type 0 where
   pub before : (j k : ℕ) → j < i → Has r j k → k < words
 
 abbrev pub EndNamesFirst : Type 0
-EndNamesFirst = (given : ℕ) (r : Registers) (words i : ℕ) → verdict given r words ≡ refused (names 14 i 7) → FirstPast r words i
+EndNamesFirst =
+    (given : ℕ) (r : Registers) (words i : ℕ) → verdict given r words ≡ refused (names 14 i 7) → FirstPast r words i
 
--- the pair that 15 names shares a word; no pair with a lower first section does, and none with this first section and a lower second
+-- the pair that 15 names shares a word; no pair with a lower first section does, nor one with a lower second
 pub record FirstPair (r : Registers) (i j : ℕ) : Type 0 where
   pub order : i < j
   pub section : j < 7
@@ -41,7 +43,8 @@ pub record FirstPair (r : Registers) (i j : ℕ) : Type 0 where
   pub higher : (b k : ℕ) → i < b → b < j → Has r i k → Has r b k → ⊥
 
 abbrev pub OverlapNamesFirst : Type 0
-OverlapNamesFirst = (given : ℕ) (r : Registers) (words i j : ℕ) → verdict given r words ≡ refused (names 15 i j) → FirstPair r i j
+OverlapNamesFirst =
+    (given : ℕ) (r : Registers) (words i j : ℕ) → verdict given r words ≡ refused (names 15 i j) → FirstPair r i j
 
 -- no two answers of the code mean the same, so no second answer meets the contract
 abbrev pub OneAnswer : Type 0

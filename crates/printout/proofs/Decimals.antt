@@ -28,7 +28,8 @@ unfolding digits
 short zero n = omega arith
 short (suc k) n = go (ltb n 10) (short k (n / 10))
   where
-    go : (t : Bool) → length (digits k (n / 10)) ≤ k → length (pick t ((48 + n) ∷ []) (digits k (n / 10) ++ ((48 + n % 10) ∷ []))) ≤ suc k
+    go : (t : Bool) → length (digits k (n / 10)) ≤ k
+        → length (pick t ((48 + n) ∷ []) (digits k (n / 10) ++ ((48 + n % 10) ∷ []))) ≤ suc k
     go true h = omega arith
     go false h = omega (arith, length-append (digits k (n / 10)) ((48 + n % 10) ∷ []))
 
@@ -37,7 +38,8 @@ enough : (k n : ℕ) → n < 10 ^ suc k → digits (suc (suc k)) n ≡ digits (s
 enough zero n h = few 1 n (omega arith) ∙ sym (few 0 n (omega arith))
 enough (suc k) n h = go (ltb n 10) refl (enough k (n / 10) (omega (arith, pow-suc 10 (suc k))))
   where
-    go : (t : Bool) → ltb n 10 ≡ t → digits (suc (suc k)) (n / 10) ≡ digits (suc k) (n / 10) → digits (suc (suc (suc k))) n ≡ digits (suc (suc k)) n
+    go : (t : Bool) → ltb n 10 ≡ t → digits (suc (suc k)) (n / 10) ≡ digits (suc k) (n / 10)
+        → digits (suc (suc (suc k))) n ≡ digits (suc (suc k)) n
     go true e f = let l = ltb-true n 10 e in few (suc (suc k)) n l ∙ sym (few (suc k) n l)
     go false e f =
         let l = ltb-false n 10 e in
@@ -50,7 +52,8 @@ module _ (n : ℕ) where
   decimal-digit h = few 19 n h ∙ ap (λ (d : ℕ). (48 + d) ∷ []) (omega arith)
 
   pub decimal-digits : 10 ≤ n → n < 2 ^ 64 → decimal n ≡ decimal (n / 10) ++ ((48 + n % 10) ∷ [])
-  decimal-digits h l = many 19 n h ∙ ap (λ (r : List ℕ). r ++ ((48 + n % 10) ∷ [])) (sym (enough 18 (n / 10) (omega arith)))
+  decimal-digits h l =
+      many 19 n h ∙ ap (λ (r : List ℕ). r ++ ((48 + n % 10) ∷ [])) (sym (enough 18 (n / 10) (omega arith)))
 
   pub decimal-short : length (decimal n) ≤ 20
   decimal-short = short 20 n

@@ -34,7 +34,9 @@ module _ (b : ℕ) where
   digit-af h k = told-by false true _ (outside "0" "9" b (λ l m. omega arith)) (inside "a" "f" b h (omega arith)) refl
 
   pub digit-AF : 65 ≤ b → b < 71 → b - 65 + 10 ≡ digitOf b
-  digit-AF h k = told-by false false true (outside "0" "9" b (λ l m. omega arith)) (outside "a" "f" b (λ l m. omega arith)) (inside "A" "F" b h (omega arith))
+  digit-AF h k =
+      told-by false false true (outside "0" "9" b (λ l m. omega arith)) (outside "a" "f" b (λ l m. omega arith))
+      (inside "A" "F" b h (omega arith))
 
   pub no-digit : (48 ≤ b → b ≤ 57 → ⊥) → (97 ≤ b → b ≤ 102 → ⊥) → (65 ≤ b → b ≤ 70 → ⊥) → 16 ≡ digitOf b
   no-digit h k l = told-by false false false (outside "0" "9" b h) (outside "a" "f" b k) (outside "A" "F" b l)

@@ -24,7 +24,8 @@ module _ (b k : ℕ) where
 
   pub digit-there : (k % 9 ≡ 8 → ⊥) → (d : ℕ) → d ≡ digitOf b → ltb d 16 ≡ inPlace b k
   unfolding inPlace
-  digit-there n d e = ap (λ (x : ℕ). ltb x 16) e ∙ sym (pick-second (eqb b 10) (ltb (digitOf b) 16) (ne-eqb (k % 9) 8 n))
+  digit-there n d e =
+      ap (λ (x : ℕ). ltb x 16) e ∙ sym (pick-second (eqb b 10) (ltb (digitOf b) 16) (ne-eqb (k % 9) 8 n))
 
 -- ---- an input that is read
 
@@ -43,11 +44,13 @@ module _ (s : List ℕ) where
         let w = look-found (outOfPlace s) (firstOut s) k 108 left h (ap not (sym e ∙ f)) in
         sym (ne-eqb (firstOut s) 108 (λ q. omega arith)) ∙ read-by l
 
-    pub in-place-on : k < 108 → (t : Bool) → t ≡ inPlace (getD s k 0) k → t ≡ true → firstOut s ≡ leastFrom (outOfPlace s) (k + 1) (108 - (k + 1))
+    pub in-place-on : k < 108 → (t : Bool) → t ≡ inPlace (getD s k 0) k → t ≡ true
+        → firstOut s ≡ leastFrom (outOfPlace s) (k + 1) (108 - (k + 1))
     in-place-on h t e f = look-on (outOfPlace s) (firstOut s) k 108 left h (ap not (sym e ∙ f))
 
     pub all-in-place : k ≤ 108 → 108 ≤ k → true ≡ readable s
-    all-in-place h m = sym (eq-eqb (firstOut s) 108 (sym (look-done (outOfPlace s) (firstOut s) k 108 left h m))) ∙ read-by l
+    all-in-place h m =
+        sym (eq-eqb (firstOut s) 108 (sym (look-done (outOfPlace s) (firstOut s) k 108 left h m))) ∙ read-by l
 
   module _ (y : readable s ≡ true) where
     pub read-length : length s ≡ 108
@@ -59,8 +62,11 @@ module _ (s : List ℕ) where
     digit-small i k h m =
         let p = 9 * i + k in
         let e = eqb-true (firstOut s) 108 (read-by read-length ∙ y) in
-        let f : inPlace (getD s p 0) p ≡ true = not-false _ (least-below (outOfPlace s) 0 108 p (omega arith) (omega arith)) in
-        ltb-true _ _ (sym (pick-second (eqb (getD s p 0) 10) (ltb (digitOf (getD s p 0)) 16) (ne-eqb (p % 9) 8 (λ q. omega arith))) ∙ f)
+        let f : inPlace (getD s p 0) p ≡ true =
+        not-false _ (least-below (outOfPlace s) 0 108 p (omega arith) (omega arith)) in
+        ltb-true _ _
+        (sym (pick-second (eqb (getD s p 0) 10) (ltb (digitOf (getD s p 0)) 16) (ne-eqb (p % 9) 8 (λ q. omega arith)))
+        ∙ f)
 
 -- ---- the number on a line
 
@@ -69,7 +75,8 @@ module _ (s : List ℕ) (at : ℕ) where
   unfolding numberFrom
   number-none = refl
 
-  pub number-more : (k n d : ℕ) → n ≡ numberFrom s at k → d ≡ digitOf (getD s (at + k) 0) → n * 16 + d ≡ numberFrom s at (k + 1)
+  pub number-more : (k n d : ℕ) → n ≡ numberFrom s at k → d ≡ digitOf (getD s (at + k) 0)
+      → n * 16 + d ≡ numberFrom s at (k + 1)
   unfolding numberFrom
   number-more k n d e f = ap₂ (λ (x y : ℕ). x * 16 + y) e f ∙ ap (numberFrom s at) (sym (add-one k))
 
@@ -85,7 +92,14 @@ module _ (s : List ℕ) (y : readable s ≡ true) (i : ℕ) (h : i < 12) where
 
   module _ (k n : ℕ) (e : n ≡ numberFrom s (9 * i) k) (l : k < 8) where
     pub shifted-fits : n * 16 < 2 ^ 32
-    shifted-fits = omega (arith, below k (omega arith), pow-le-pow-right {n = 16} (omega arith) {i = k} {j = 7} (omega arith))
+    shifted-fits =
+        omega (arith, below k (omega arith), pow-le-pow-right {n = 16} (omega arith) {i = k} {j = 7} (omega arith))
 
     pub number-fits : (d : ℕ) → d ≡ digitOf (getD s (9 * i + k) 0) → n * 16 + d < 2 ^ 32
-    number-fits d f = omega (arith, below k (omega arith), digit-small s y i k h l, pow-le-pow-right {n = 16} (omega arith) {i = k} {j = 7} (omega arith))
+    number-fits d f =
+        omega (
+          arith,
+          below k (omega arith),
+          digit-small s y i k h l,
+          pow-le-pow-right {n = 16} (omega arith) {i = k} {j = 7} (omega arith),
+        )

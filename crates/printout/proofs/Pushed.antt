@@ -19,7 +19,8 @@ pub none-pushed : (x : List ℕ) → x ≡ x ++ []
 none-pushed x = sym (append-nil x)
 
 module _ (x s : List ℕ) where
-  pub one-more-pushed : (y z : List ℕ) (i : ℕ) → y ≡ x ++ take i s → z ≡ y ++ (getD s i 0 ∷ []) → i < length s → z ≡ x ++ take (i + 1) s
+  pub one-more-pushed : (y z : List ℕ) (i : ℕ) → y ≡ x ++ take i s → z ≡ y ++ (getD s i 0 ∷ []) → i < length s
+      → z ≡ x ++ take (i + 1) s
   one-more-pushed y z i e f h =
       f
       ∙ ap (λ (l : List ℕ). l ++ (getD s i 0 ∷ [])) e
@@ -38,7 +39,8 @@ module _ (n : ℕ) where
   digit-counted m k h e = omega (arith, ap length (decimal-digit n h))
 
   module _ (h : 10 ≤ n) (b : n < 2 ^ 64) where
-    pub digits-pushed : (x y z : List ℕ) → y ≡ x ++ decimal (n / 10) → z ≡ y ++ ((48 + n % 10) ∷ []) → z ≡ x ++ decimal n
+    pub digits-pushed : (x y z : List ℕ) → y ≡ x ++ decimal (n / 10) → z ≡ y ++ ((48 + n % 10) ∷ [])
+        → z ≡ x ++ decimal n
     digits-pushed x y z e f =
         f
         ∙ ap (λ (l : List ℕ). l ++ ((48 + n % 10) ∷ [])) e
@@ -57,11 +59,14 @@ module _ (n : ℕ) where
 
 -- three numbers on a line
 module _ (a b c : ℕ) where
-  pub row-pushed : (x y₁ y₂ y₃ y₄ y₅ y₆ : List ℕ) → y₁ ≡ x ++ decimal a → y₂ ≡ y₁ ++ (32 ∷ []) → y₃ ≡ y₂ ++ decimal b → y₄ ≡ y₃ ++ (32 ∷ []) → y₅ ≡ y₄ ++ decimal c
+  pub row-pushed : (x y₁ y₂ y₃ y₄ y₅ y₆ : List ℕ) → y₁ ≡ x ++ decimal a → y₂ ≡ y₁ ++ (32 ∷ [])
+      → y₃ ≡ y₂ ++ decimal b → y₄ ≡ y₃ ++ (32 ∷ []) → y₅ ≡ y₄ ++ decimal c
       → y₆ ≡ y₅ ++ (10 ∷ []) → y₆ ≡ x ++ row a b c
   row-pushed x y₁ y₂ y₃ y₄ y₅ y₆ e₁ e₂ e₃ e₄ e₅ e₆ =
       let e : y₆ ≡ x ++ decimal a ++ (32 ∷ []) ++ decimal b ++ (32 ∷ []) ++ decimal c ++ (10 ∷ []) = cc in
       e ∙ joined (decimal a) (decimal b) (decimal c)
     where
-      joined : (p q r : List ℕ) → x ++ p ++ (32 ∷ []) ++ q ++ (32 ∷ []) ++ r ++ (10 ∷ []) ≡ x ++ (p ++ (32 ∷ []) ++ q ++ (32 ∷ []) ++ r ++ (10 ∷ []))
+      joined : (p q r : List ℕ)
+          → x ++ p ++ (32 ∷ []) ++ q ++ (32 ∷ []) ++ r ++ (10 ∷ []) ≡ x
+          ++ (p ++ (32 ∷ []) ++ q ++ (32 ∷ []) ++ r ++ (10 ∷ []))
       joined p q r = simp append-assoc

@@ -24,8 +24,10 @@ use Rattle.printout.specs.Printed.{row, rows, unread, refusal, ok, told,
 pub first-pushed : (e x s : List ℕ) → e ≡ [] → x ≡ e ++ s → x ≡ s
 first-pushed e x s f g = g ∙ ap (λ (l : List ℕ). l ++ s) f
 
-pub refusal-told : (e x y : List ℕ) (n a b : ℕ) → e ≡ [] → x ≡ e ++ ascii "layout refused " → y ≡ x ++ row n a b → y ≡ refusal (names n a b)
-refusal-told e x y n a b f g h = h ∙ ap (λ (l : List ℕ). l ++ row n a b) (first-pushed e x (ascii "layout refused ") f g)
+pub refusal-told : (e x y : List ℕ) (n a b : ℕ) → e ≡ [] → x ≡ e ++ ascii "layout refused " → y ≡ x ++ row n a b
+    → y ≡ refusal (names n a b)
+refusal-told e x y n a b f g h =
+    h ∙ ap (λ (l : List ℕ). l ++ row n a b) (first-pushed e x (ascii "layout refused ") f g)
 
 -- the rows, one after another
 module _ (ss : List Section) (x : List ℕ) where
@@ -34,7 +36,8 @@ module _ (ss : List Section) (x : List ℕ) where
   no-rows = sym (append-nil x)
 
   module _ (y : List ℕ) (i : ℕ) (e : y ≡ x ++ rows ss i) where
-    pub one-more-row : (z : List ℕ) (s : Section) → s ≡ getD ss i none → z ≡ y ++ row i (s .start .0) (s .words) → z ≡ x ++ rows ss (i + 1)
+    pub one-more-row : (z : List ℕ) (s : Section) → s ≡ getD ss i none → z ≡ y ++ row i (s .start .0) (s .words)
+        → z ≡ x ++ rows ss (i + 1)
     unfolding rows
     one-more-row z s f g =
         g
@@ -44,7 +47,10 @@ module _ (ss : List Section) (x : List ℕ) where
         ∙ ap (λ (k : ℕ). x ++ rows ss k) (sym (add-one i))
 
     pub ok-told : (b : List ℕ) → b ≡ [] → x ≡ b ++ ascii "layout ok\n" → i ≤ 7 → 7 ≤ i → y ≡ ok ss
-    ok-told b f g h l = e ∙ ap (λ (k : ℕ). x ++ rows ss k) (omega arith) ∙ ap (λ (l : List ℕ). l ++ rows ss 7) (first-pushed b x (ascii "layout ok\n") f g)
+    ok-told b f g h l =
+        e
+        ∙ ap (λ (k : ℕ). x ++ rows ss k) (omega arith)
+        ∙ ap (λ (l : List ℕ). l ++ rows ss 7) (first-pushed b x (ascii "layout ok\n") f g)
 
 -- a verdict: the sections where it accepts, else its numbers
 module _ (v : Ruling Refusal) (ss : List Section) (b : Bool) (t : b ≡ isAllowed v) (x : List ℕ) where

@@ -1,4 +1,4 @@
-// What the bench program prints for an input: the layout that its twelve registers give, its refusal, or `layout unread`.
+// What the bench program prints: the layout that its twelve registers give, its refusal, or `layout unread`.
 mod reading;
 mod text;
 

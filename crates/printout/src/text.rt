@@ -34,7 +34,8 @@ impl Text {
 
     pub(crate) fn push_all(self, bytes: &[u8]) -> Self
         requires { ⌜ self .len + length (now bytes) ≤ 512 ⌝ }
-        ensures { λ r. ⌜ (content r ≡ content self ++ now (bytes .entry)) × (r .len ≡ self .len + length (now (bytes .entry))) ⌝ }
+        ensures { λ r. ⌜ (content r ≡ content self ++ now (bytes .entry))
+            × (r .len ≡ self .len + length (now (bytes .entry))) ⌝ }
     {
         let mut t = self;
         let mut i = 0;
@@ -48,7 +49,9 @@ impl Text {
     // A number in decimal: at most 20 digits.
     fn push_number(self, n: u64) -> Self
         requires { ⌜ self .len ≤ 492 ⌝ }
-        ensures { λ r. ⌜ (content r ≡ content self ++ decimal n) × (r .len ≡ self .len + length (decimal n)) × (r .len ≤ self .len + 20) ⌝ }
+        ensures { λ r. ⌜ (content r ≡ content self ++ decimal n)
+            × (r .len ≡ self .len + length (decimal n))
+            × (r .len ≤ self .len + 20) ⌝ }
     {
         let digit = b'0' + (n % 10) as u8;
         if n < 10 {

@@ -1,95 +1,162 @@
 -- The element that a receive stores: its words stand where the answer says, and all others are as they were.
 -- Assumes nothing.
-use Prim.Native.Nat.{ℕ, _+_, _≤_, _<_}
+use Prim.Native.Nat.{ℕ, zero, suc, _+_, _≤_, _<_}
 use mathlib.Core.Path.{_≡_, refl}
-use mathlib.Core.Bool.{Bool, true, false}
+use mathlib.Core.Bool.{Bool}
 use mathlib.Core.List.{List}
-use mathlib.Core.Logic.{_⊎_, inl, inr}
-use borrow.Author.Tests.{ltb-true, ltb-false, leb-true, leb-false}
 use native.Mathlib.Omega.{arith}
-use lib.Dec.{ltb, leb}
-use lib.ListN.{length, getD}
+use lib.ListN.{length}
+use Rattle.words.specs.Ranges.{front, Inside, OnlyIn}
+use Rattle.words.specs.Rules.{allowed, first}
 use Rattle.words.specs.Runs.{splice}
+use Rattle.words.proofs.Ranges.{only-none}
+use Rattle.shape.specs.Calls.{answers}
+use Rattle.places.specs.Areas.{areaRange, placeIn, placeRange, wordsAt, Roomy}
+use Rattle.places.specs.Slots.{slotMemory}
+use Rattle.places.specs.declared.Area.{Area}
+use Rattle.places.specs.declared.Slot.{Slot}
+use Rattle.places.specs.declared.Slot.the-variants.{At, Lost}
+use Rattle.places.proofs.Stores.{element-inside, store-there, store-own}
 use Rattle.frame.specs.declared.Frame.{Frame}
 use Rattle.frame.specs.declared.Matched.{Matched}
-use Rattle.element.specs.Elements.{element, rxElement}
+use Rattle.registers.specs.Fields.{fifoSize}
+use Rattle.registers.specs.declared.Registers.{Registers}
+use Rattle.layout.specs.Legal.{Has}
+use Rattle.element.specs.Elements.{rxElement}
 use Rattle.element.specs.Promises.{Holds}
-use Rattle.element.proofs.RoundTrip.{element-placed}
-use Rattle.engine.specs.Answers.{answers}
-use Rattle.engine.specs.Areas.{fifoSize, fifoArea, bufferArea, placeIn, Roomy, dataWords}
-use Rattle.engine.specs.Keeping.{keepRule, slotMemory}
+use Rattle.element.specs.Word0.{word0}
+use Rattle.element.specs.Word1.{rxWord1}
+use Rattle.element.specs.declared.Arrival.{Arrival}
+use Rattle.element.proofs.Storing.{element-length}
+use Rattle.areas.specs.Areas.{fifoArea, bufferArea, dataWords}
+use Rattle.areas.specs.Own.{own}
+use Rattle.areas.proofs.Rooms.{fifo-roomy, buffer-roomy}
+use Rattle.areas.proofs.Sections.{areas-are-sections}
+use Rattle.engine.specs.Calls.{World, Outcome, Effect}
+use Rattle.engine.specs.Keeping.{keepRule}
 use Rattle.engine.specs.States.{fifoRing}
-use Rattle.engine.specs.declared.areas.Area.{Area}
-use Rattle.engine.specs.declared.keeping.Slot.{Slot}
-use Rattle.engine.specs.declared.keeping.Slot.the-variants.{At, Lost}
-use Rattle.engine.specs.declared.state.State.{State}
-use Rattle.engine.specs.declared.state.Record.{Record}
 use Rattle.engine.proofs.Keeps.{kept-within}
-use Rattle.engine.proofs.Rooms.{place-room, fifo-roomy, buffer-roomy}
-use Rattle.engine.proofs.Sounds.{sound-of, ring-fits}
+use Rattle.engine.proofs.Sounds.{ring-fits}
 use Rattle.receiving.specs.Fifos.{keeperOf}
-use Rattle.receiving.specs.Promises.{InElement, HoldsFrame, StoredIsThere}
-use Rattle.receiving.specs.Receive.{ReceiveOutcome, slotSays, intoFifo, intoBuffer, intoNothing}
-use Rattle.receiving.proofs.Outcomes.{Passed, receive-cases}
+use Rattle.receiving.specs.Promises.{storedIn, namedBy, OneElement, ReceiveWritesOneElement, HoldsFrame, StoredIsThere}
+use Rattle.receiving.specs.Receive.{Fate, arrival, slotSays, receiveRefusals, intoFifo, intoBuffer, intoNothing, receives}
+use Rattle.receiving.proofs.Judgements.{ReceiveOpen, receive-open}
+use Rattle.receiving.proofs.Outcomes.{receives-cases, receive-cases}
 
 -- ---- at a place of an area
 
-module _ (mem : List ℕ) (a : Area) (place : ℕ) (room : Roomy a (length mem)) (within : place < a .count) where
-  pub element-inside : placeIn a place + 2 + dataWords a ≤ length mem
-  element-inside = omega (arith, place-room a place (length mem) room within, room .header)
+-- an arrival's element fills its place
+pub arrival-length : (a : Arrival) (d : List ℕ) (area : Area) → 2 ≤ area .each
+    → length (rxElement a d (dataWords area)) ≡ area .each
+arrival-length a d area h = omega (arith, element-length (word0 (a .frame)) (rxWord1 a) d (dataWords area))
 
-  module _ (first second : ℕ) (d : List ℕ) where
-    pub stored-size : length (splice mem (placeIn a place) (element first second d (dataWords a))) ≡ length mem
-    stored-size = element-placed mem (placeIn a place) first second d (dataWords a) element-inside .placed .size
+-- what stands at a place is what an element's read goes by
+pub held-there : (mem : List ℕ) (a : Arrival) (d : List ℕ) (area : Area) (place : ℕ) → 2 ≤ area .each
+    → wordsAt area place mem ≡ rxElement a d (dataWords area) → Holds mem (placeIn area place) (rxElement a d (dataWords area))
+held-there mem a d area place h e = rw (arrival-length a d area h) e
 
-    pub stored-holds : Holds (splice mem (placeIn a place) (element first second d (dataWords a))) (placeIn a place) (element first second d (dataWords a))
-    stored-holds = element-placed mem (placeIn a place) first second d (dataWords a) element-inside .placed .inside
+module _ (mem : List ℕ) (area : Area) (room : Roomy area (length mem)) (place : ℕ) (within : place < area .count) (a : Arrival) (d : List ℕ) where
+  abbrev after : List ℕ
+  after = splice mem (placeIn area place) (rxElement a d (dataWords area))
 
-    pub stored-others : (k : ℕ) → (InElement a place k → ⊥) → getD (splice mem (placeIn a place) (element first second d (dataWords a))) k 0 ≡ getD mem k 0
-    stored-others k out =
-        element-placed mem (placeIn a place) first second d (dataWords a) element-inside .placed .outside k
-        (side (ltb k (placeIn a place)) refl (leb (placeIn a place + a .each) k) refl)
-      where
-        words : length (element first second d (dataWords a)) ≡ a .each
-        words = omega (arith, element-placed mem (placeIn a place) first second d (dataWords a) element-inside .words, room .header)
+  pub arrival-there : wordsAt area place after ≡ rxElement a d (dataWords area)
+  arrival-there = store-there area mem (room .room) place within _ (arrival-length a d area (room .header))
 
-        side : (b : Bool) → ltb k (placeIn a place) ≡ b → (c : Bool) → leb (placeIn a place + a .each) k ≡ c
-            → (k < placeIn a place) ⊎ (placeIn a place + length (element first second d (dataWords a)) ≤ k)
-        side true x c y = inl (ltb-true k (placeIn a place) x)
-        side false x true y = inr (omega (arith, leb-true (placeIn a place + a .each) k y, words))
-        side false x false y =
-            absurd (out (record { from = ltb-false k (placeIn a place) x; below = leb-false (placeIn a place + a .each) k y }))
+  pub arrival-only : OnlyIn (placeRange area place) mem after
+  arrival-only = store-own area mem (room .room) place within _ (arrival-length a d area (room .header))
 
--- a slot's place is one of the FIFO's
-pub slot-within : (s : State) (r : Record) (mem : List ℕ) (f : Frame) (d : List ℕ) → Passed s r mem f d → (k : ℕ) → k ≤ 1
-    → (p : ℕ) → keepRule (keeperOf (s .regs) k) (fifoRing s k) r .slot ≡ At p → p < fifoSize (s .regs) k
-slot-within s r mem f d p k l =
-    kept-within (keeperOf (s .regs) k) (fifoRing s k) r (record { ring = ring-fits s (length mem) k (sound-of s r (length mem) (p .fit)); flags = omega arith })
+-- its words are those of its section
+module _ (g : Registers) where
+  place-has : (i place k : ℕ) → i < 5 → place < own g i .count → Inside (placeRange (own g i) place) k → Has g (2 + i) k
+  place-has i place k l h x =
+      areas-are-sections g i k l .0
+      (record { from = omega (arith, x .from); below = omega (arith, x .below, element-inside (own g i) place h) })
+
+  fifo-has : (fifo place k : ℕ) → fifo ≤ 1 → place < fifoSize g fifo → Inside (placeRange (fifoArea g fifo) place) k → Has g (2 + fifo) k
+  fifo-has zero place k l h x = place-has 0 place k (omega arith) h x
+  fifo-has (suc zero) place k l h x = place-has 1 place k (omega arith) h x
+  fifo-has (suc (suc n)) place k l h x = absurd (omega arith)
+
+  buffer-has : (buffer k : ℕ) → buffer < g .buffers → Inside (placeRange (bufferArea g) buffer) k → Has g 4 k
+  buffer-has buffer k h x = place-has 2 buffer k (omega arith) h x
+
+-- nothing is named, and nothing changes
+none-written : (g : Registers) (mem : List ℕ) → OneElement g (front 0) mem mem
+none-written g mem = record { only = only-none (front 0) mem; own = λ k x. absurd (omega (arith, x .below)) }
 
 -- ---- by a receive
 
-module _ (s : State) (r : Record) (mem : List ℕ) (f : Frame) (d : List ℕ) (time : ℕ) where
-  abbrev There : ReceiveOutcome → Type 0
-  There o = HoldsFrame (s .regs) f d time (o .memory) (o .says)
+module _ (w : World) (f : Frame) (d : List ℕ) (time : ℕ) (free : ReceiveOpen w f (length d)) where
+  abbrev g : Registers
+  g = w .state .regs
 
-  in-slot : Passed s r mem f d → (k : ℕ) (m : Matched) (x : Slot) → ((p : ℕ) → x ≡ At p → p < fifoSize (s .regs) k)
-      → HoldsFrame (s .regs) f d time (slotMemory mem (fifoArea (s .regs) k) (rxElement m f time d (dataWords (fifoArea (s .regs) k))) x) (answers (slotSays k m x))
-  in-slot p k m (At place) within = stored-holds mem (fifoArea (s .regs) k) place (fifo-roomy (s .regs) (length mem) (sound-of s r (length mem) (p .fit) .legal) k) (within place refl) _ _ d
-  in-slot p k m Lost within = tt
+  -- a slot's place is one of the FIFO's
+  pub slot-within : (k : ℕ) → k ≤ 1 → (p : ℕ) → keepRule (keeperOf g k) (fifoRing (w .state) k) (w .recorded) .slot ≡ At p → p < fifoSize g k
+  slot-within k l =
+      kept-within (keeperOf g k) (fifoRing (w .state) k) (w .recorded)
+      (record { ring = ring-fits (w .state) (length (w .memory)) k (free .sound); flags = omega arith })
 
-  fifo-there : Passed s r mem f d → (k : ℕ) (priority : Bool) (m : Matched) → k ≤ 1 → There (intoFifo s r mem f d time k priority m)
-  unfolding intoFifo
-  fifo-there p k priority m l = in-slot p k m (keepRule (keeperOf (s .regs) k) (fifoRing s k) r .slot) (slot-within s r mem f d p k l)
+  fifo-room : (k : ℕ) → Roomy (fifoArea g k) (length (w .memory))
+  fifo-room k = fifo-roomy g (length (w .memory)) (free .sound .legal) k
 
-  buffer-there : Passed s r mem f d → (b i : ℕ) → b < s .regs .buffers → There (intoBuffer s r mem f d time b i)
-  unfolding intoBuffer
-  buffer-there p b i l = stored-holds mem (bufferArea (s .regs)) b (buffer-roomy (s .regs) (length mem) (sound-of s r (length mem) (p .fit) .legal)) l _ _ d
+  buffer-room : Roomy (bufferArea g) (length (w .memory))
+  buffer-room = buffer-roomy g (length (w .memory)) (free .sound .legal)
 
-  nowhere-there : (why : ℕ) (m : Matched) → There (intoNothing s r mem f why m)
-  unfolding intoNothing
-  nowhere-there why m = tt
+  -- what is to be shown of the effect
+  abbrev There : Effect Fate → Type 0
+  There e = HoldsFrame g f d time (e .world .memory) (answers (e .answer))
+
+  abbrev One : Effect Fate → Type 0
+  One e = OneElement g (storedIn g (e .answer)) (w .memory) (e .world .memory)
+
+  module _ (k : ℕ) (l : k ≤ 1) (a : Arrival) where
+    abbrev after-slot : Slot → List ℕ
+    after-slot x = slotMemory (w .memory) (fifoArea g k) (rxElement a d (dataWords (fifoArea g k))) x
+
+    slot-one : (m : Matched) (x : Slot) → ((p : ℕ) → x ≡ At p → p < fifoSize g k)
+        → OneElement g (storedIn g (slotSays k m x)) (w .memory) (after-slot x)
+    slot-one m (At p) h = record {
+      only = arrival-only (w .memory) (fifoArea g k) (fifo-room k) p (h p refl) a d;
+      own = λ n x. (2 + k, omega arith, omega arith, fifo-has g k p n l (h p refl) x);
+    }
+    slot-one m Lost h = none-written g (w .memory)
+
+  slot-there : (k : ℕ) (m : Matched) (x : Slot) → ((p : ℕ) → x ≡ At p → p < fifoSize g k)
+      → HoldsFrame g f d time (slotMemory (w .memory) (fifoArea g k) (rxElement (arrival f time m) d (dataWords (fifoArea g k))) x) (answers (slotSays k m x))
+  slot-there k m (At p) h = arrival-there (w .memory) (fifoArea g k) (fifo-room k) p (h p refl) (arrival f time m) d
+  slot-there k m Lost h = tt
+
+  effect-there : There (receives w f d time)
+  unfolding intoFifo intoBuffer intoNothing
+  effect-there =
+      receives-cases w f d time free There
+      (λ k priority m l x. slot-there k m _ (slot-within k l))
+      (λ b i l z x. arrival-there (w .memory) (bufferArea g) buffer-room b l _ d)
+      (λ why m x. tt)
+
+  effect-one : One (receives w f d time)
+  unfolding intoFifo intoBuffer intoNothing
+  effect-one =
+      receives-cases w f d time free One
+      (λ k priority m l x. slot-one k l _ m _ (slot-within k l))
+      (λ b i l z x. record {
+        only = arrival-only (w .memory) (bufferArea g) buffer-room b l _ d;
+        own = λ n y. (4, omega arith, omega arith, buffer-has g b n l y);
+      })
+      (λ why m x. none-written g (w .memory))
 
 pub stored-is-there : StoredIsThere
-stored-is-there s r mem f d time =
-    receive-cases s r mem f d time (There s r mem f d time) (λ n. tt)
-    (λ p k priority m l x. fifo-there s r mem f d time p k priority m l) (λ p b i l z x. buffer-there s r mem f d time p b i l) (λ p why m x. nowhere-there s r mem f d time why m)
+stored-is-there w f d time =
+    receive-cases w f d time (λ (o : Outcome Fate). HoldsFrame (w .state .regs) f d time (o .world .memory) (o .says))
+    (λ n. tt) (effect-there w f d time)
+
+pub receive-writes-one-element : ReceiveWritesOneElement
+receive-writes-one-element w f d time =
+    receive-cases w f d time
+    (λ (o : Outcome Fate). OneElement (w .state .regs) (namedBy (w .state .regs) (o .says)) (w .memory) (o .world .memory))
+    (λ n. none-written (w .state .regs) (w .memory)) (effect-one w f d time)
+
+-- the words that are written are those of the element that the answer names
+pub receive-memory : (w : World) (f : Frame) (d : List ℕ) (time : ℕ) → first (receiveRefusals w f (length d)) ≡ allowed
+    → let e = receives w f d time in OnlyIn (storedIn (w .state .regs) (e .answer)) (w .memory) (e .world .memory)
+receive-memory w f d time e = effect-one w f d time (receive-open w f (length d) e) .only

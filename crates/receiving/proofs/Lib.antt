@@ -5,8 +5,6 @@ pub mod Lists
 pub mod Takes
 pub mod Outcomes
 pub mod Elements
-pub mod OneElement
 pub mod StillFit
-pub mod Refusals
-pub mod OneOutcome
-pub mod OwnWords
+pub mod OwnSections
+pub mod Answers

@@ -3,27 +3,29 @@
 use Prim.Native.Nat.{ℕ, zero, suc, _+_, _-_, _*_, _≤_, _<_}
 use mathlib.Core.Path.{refl}
 use native.Mathlib.Omega.{arith}
-use Rattle.words.specs.Fields.{bits}
+use Rattle.frame.specs.declared.Matched.{Matched}
+use Rattle.frame.specs.declared.Matched.the-variants.{Nothing, Filter}
+use Rattle.registers.specs.Fields.{filters11, filters11Start, filters29, filters29Start}
 use Rattle.registers.specs.declared.Registers.{Registers}
 use Rattle.layout.specs.Legal.{Legal}
 use Rattle.layout.specs.Sections.{memoryWords}
-use Rattle.frame.specs.declared.Matched.{Matched}
-use Rattle.frame.specs.declared.Matched.the-variants.{Nothing, Filter}
 use Rattle.element.specs.Fitting.{indexOf}
+use Rattle.filter.specs.Needs.{ListsFit}
 use Rattle.filter.specs.Promises.{IndexBelow}
-use Rattle.filter.specs.Search.{ListsFit}
 use Rattle.filter.proofs.Turns.{lists-fit}
 
 room : (start n words : ℕ) → ((k : ℕ) → start ≤ k → k < start + n → k < words) → n ≤ words - start
 room start zero words h = omega arith
 room start (suc n) words h = omega (arith, h (start + n) (omega arith) (omega arith))
 
-pub legal-lists : (r : Registers) (words : ℕ) → Legal memoryWords r words → ListsFit r words
-legal-lists r words h =
-    lists-fit r words
-    (room (bits 15 2 (r .sidfc .word)) (bits 23 16 (r .sidfc .word)) words (λ k a b. h .inside 0 k (omega arith) (record { from = a; below = omega arith })))
+pub legal-lists : (g : Registers) (words : ℕ) → Legal memoryWords g words → ListsFit g words
+legal-lists g words h =
+    lists-fit g words
+    (room (filters11Start g) (filters11 g) words
+    (λ k a b. h .inside 0 k (omega arith) (record { from = a; below = omega arith })))
     (h .counted .filters11)
-    (room (bits 15 2 (r .xidfc .word)) (2 * bits 22 16 (r .xidfc .word)) words (λ k a b. h .inside 1 k (omega arith) (record { from = a; below = omega arith })))
+    (room (filters29Start g) (2 * filters29 g) words
+    (λ k a b. h .inside 1 k (omega arith) (record { from = a; below = omega arith })))
     (h .counted .filters29)
 
 pub index-small : (m : Matched) → IndexBelow 128 m → indexOf m < 128

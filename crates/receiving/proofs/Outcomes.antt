@@ -1,55 +1,51 @@
--- Every outcome of a receive, case by case: what is shown of each case is shown of the rule.
+-- Every way that a receive can go: what is shown of each is shown of the effect, and of the call.
 -- Assumes nothing.
 use Prim.Native.Nat.{ℕ, _≤_, _<_}
 use mathlib.Core.Path.{_≡_}
-use mathlib.Core.Bool.{Bool, false, not, _&&_}
-use mathlib.Core.List.{List, [], _∷_}
+use mathlib.Core.Bool.{Bool}
+use mathlib.Core.List.{List, []}
 use lib.ListN.{length}
 use Rattle.words.specs.Bits.{bit}
-use Rattle.words.specs.Rules.{allowed, refuseIf, first}
-use Rattle.words.proofs.Rulings.{all-three, settled}
-use Rattle.frame.specs.Malformed.{malformed}
+use Rattle.shape.specs.Calls.{refuses, outcome, effected}
+use Rattle.shape.specs.Refusals.{Refusal}
+use Rattle.shape.proofs.Calls.{call-cases}
 use Rattle.frame.specs.declared.Frame.{Frame}
 use Rattle.frame.specs.declared.Matched.{Matched}
+use Rattle.frame.specs.declared.Matched.the-variants.{Filter}
 use Rattle.element.specs.Fitting.{indexOf}
 use Rattle.filter.specs.Destination.{Goes, toFifo, toBuffer, discarded, destination}
 use Rattle.filter.specs.Promises.{Within}
 use Rattle.filter.proofs.Bounds.{destination-is-within}
-use Rattle.engine.specs.Answers.{refuses}
-use Rattle.engine.specs.Fitness.{unfit}
-use Rattle.engine.specs.declared.state.State.{State}
-use Rattle.engine.specs.declared.state.Record.{Record}
-use Rattle.engine.proofs.Sounds.{sound-of}
-use Rattle.receiving.specs.Receive.{ReceiveOutcome, intoFifo, intoBuffer, intoNothing, goesTo, receiveRule}
+use Rattle.engine.specs.Calls.{World, Outcome, Effect}
+use Rattle.receiving.specs.Receive.{Fate, arrival, receiveRefusals, intoFifo, intoBuffer, intoNothing}
+use Rattle.receiving.specs.Receive.{goesTo, receives, receive}
+use Rattle.receiving.proofs.Judgements.{ReceiveOpen, receive-open}
 use Rattle.receiving.proofs.Lists.{legal-lists, index-small}
 
--- what holds of every call that is not refused
-pub record Passed (s : State) (r : Record) (mem : List ℕ) (f : Frame) (d : List ℕ) : Type 0 where
-  pub fit : unfit s r (length mem) ≡ false
-  pub formed : malformed f (length d) ≡ false
-  pub form : (f .fdf && not (s .regs .fdon)) ≡ false
+-- where a frame goes is within bounds
+pub goes-within : (w : World) (f : Frame) (bytes : ℕ) → ReceiveOpen w f bytes
+    → Within (w .state .regs) (w .state .newdata) (destination (w .state .regs) (w .memory) f (w .state .newdata))
+goes-within w f bytes o =
+    destination-is-within (w .state .regs) (w .memory) f (w .state .newdata)
+    (legal-lists (w .state .regs) (length (w .memory)) (o .sound .legal) .few)
 
-pub passed : (s : State) (r : Record) (mem : List ℕ) (f : Frame) (d : List ℕ)
-    → first {A = ℕ} (refuseIf (unfit s r (length mem)) 20 ∷ refuseIf (malformed f (length d)) 21 ∷ refuseIf (f .fdf && not (s .regs .fdon)) 22 ∷ []) ≡ allowed → Passed s r mem f d
-passed s r mem f d e =
-    let p = all-three (unfit s r (length mem)) (malformed f (length d)) (f .fdf && not (s .regs .fdon)) 20 21 22 e in
-    record { fit = p .0; formed = p .1; form = p .2 }
+module _ (w : World) (f : Frame) (d : List ℕ) (time : ℕ) where
+  module _ (free : ReceiveOpen w f (length d)) (P : Effect Fate → Type 0)
+      (fifo : (k : ℕ) (priority : Bool) (m : Matched) → k ≤ 1 → indexOf m < 128 → P (intoFifo w k priority (arrival f time m) d))
+      (buffer : (b i : ℕ) → b < w .state .regs .buffers → bit (w .state .newdata) b ≡ 0 → i < 128
+      → P (intoBuffer w b (arrival f time (Filter i)) d))
+      (nowhere : (why : ℕ) (m : Matched) → indexOf m < 128 → P (intoNothing w why (arrival f time m))) where
+    going : (g : Goes) → Within (w .state .regs) (w .state .newdata) g → P (goesTo w f d time g)
+    going (toFifo k priority m) x = fifo k priority m (x .0) (index-small m (x .1))
+    going (toBuffer b i) x = buffer b i (x .0) (x .1) (x .2)
+    going (discarded why m) x = nowhere why m (index-small m (x .1))
 
-module _ (s : State) (r : Record) (mem : List ℕ) (f : Frame) (d : List ℕ) (time : ℕ) (P : ReceiveOutcome → Type 0)
-    (turned : (n : ℕ) → P (record { says = refuses n; state = s; status = r; memory = mem }))
-    (fifo : Passed s r mem f d → (k : ℕ) (priority : Bool) (m : Matched) → k ≤ 1 → indexOf m < 128 → P (intoFifo s r mem f d time k priority m))
-    (buffer : Passed s r mem f d → (b i : ℕ) → b < s .regs .buffers → bit (s .newdata) b ≡ 0 → i < 128 → P (intoBuffer s r mem f d time b i))
-    (nowhere : Passed s r mem f d → (why : ℕ) (m : Matched) → indexOf m < 128 → P (intoNothing s r mem f why m)) where
-  going : Passed s r mem f d → (g : Goes) → Within (s .regs) (s .newdata) g → P (goesTo s r mem f d time g)
-  going p (toFifo k priority m) w = fifo p k priority m (w .0) (index-small m (w .1))
-  going p (toBuffer b i) w = buffer p b i (w .0) (w .1) (w .2)
-  going p (discarded why m) w = nowhere p why m (index-small m (w .1))
+    pub receives-cases : P (receives w f d time)
+    receives-cases =
+        going (destination (w .state .regs) (w .memory) f (w .state .newdata)) (goes-within w f (length d) free)
 
-  pub receive-cases : P (receiveRule s r mem f d time)
-  unfolding receiveRule
-  receive-cases =
-      settled P (first (refuseIf (unfit s r (length mem)) 20 ∷ refuseIf (malformed f (length d)) 21 ∷ refuseIf (f .fdf && not (s .regs .fdon)) 22 ∷ []))
-      (goesTo s r mem f d time (destination (s .regs) mem f (s .newdata))) (λ n. record { says = refuses n; state = s; status = r; memory = mem })
-      turned
-      (λ e. going (passed s r mem f d e) (destination (s .regs) mem f (s .newdata))
-      (destination-is-within (s .regs) (length mem) mem f (s .newdata) (legal-lists (s .regs) (length mem) (sound-of s r (length mem) (passed s r mem f d e .fit) .legal))))
+  pub receive-cases : (P : Outcome Fate → Type 0) → ((n : Refusal) → P (outcome (refuses n) w []))
+      → (ReceiveOpen w f (length d) → P (effected (receives w f d time))) → P (receive w f d time)
+  receive-cases P turned through =
+      call-cases w [] (receiveRefusals w f (length d)) (receives w f d time) P turned
+      (λ e. through (receive-open w f (length d) e))

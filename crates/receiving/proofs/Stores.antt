@@ -1,57 +1,64 @@
--- The cases of storing a frame, one law each.
+-- The cases of storing an arrival, one law each.
 -- Assumes nothing.
 use Prim.Native.Nat.{ℕ, _*_}
-use mathlib.Core.Path.{_≡_, refl, ap, ap₂, _∙_}
+use mathlib.Core.Path.{_≡_, refl, ap₂, _∙_}
 use mathlib.Core.List.{List}
 use native.Mathlib.Omega.{arith}
 use lib.Dec.{eqb}
-use Rattle.words.specs.Fields.{bits}
 use Rattle.words.specs.Runs.{splice}
 use Rattle.ring.specs.declared.Ring.{Ring}
-use Rattle.registers.specs.declared.Registers.{Registers}
+use Rattle.places.specs.Areas.{placeIn}
+use Rattle.places.specs.Slots.{slotMemory}
+use Rattle.places.specs.declared.Area.{Area}
+use Rattle.places.specs.declared.Slot.{Slot}
+use Rattle.places.specs.declared.Slot.the-variants.{At, Lost}
+use Rattle.registers.specs.Fields.{fifoWord}
+use Rattle.registers.specs.Kinds.{field, rxfcCount, rxfcWatermark, rxfcOverwrite}
 use Rattle.registers.specs.declared.kinds.Rxfc.{Rxfc}
-use Rattle.frame.specs.declared.Frame.{Frame}
-use Rattle.frame.specs.declared.Matched.{Matched}
 use Rattle.element.specs.Elements.{rxElement}
-use Rattle.engine.specs.Areas.{fifoWord, placeIn, dataWords}
-use Rattle.engine.specs.Keeping.{keepRule, CanKeep, slotMemory}
-use Rattle.engine.specs.declared.areas.Area.{Area}
+use Rattle.element.specs.declared.Arrival.{Arrival}
+use Rattle.areas.specs.Areas.{dataWords}
+use Rattle.engine.specs.Keeping.{keepRule}
+use Rattle.engine.specs.Needs.{CanKeep}
+use Rattle.engine.specs.States.{fifoRing}
 use Rattle.engine.specs.declared.keeping.Keeper.{Keeper}
 use Rattle.engine.specs.declared.keeping.Kept.{Kept}
-use Rattle.engine.specs.declared.keeping.Slot.{Slot}
-use Rattle.engine.specs.declared.keeping.Slot.the-variants.{At, Lost}
+use Rattle.engine.specs.declared.state.State.{State}
 use Rattle.engine.specs.declared.state.Record.{Record}
 use Rattle.receiving.specs.Fifos.{keeperOf}
-use Rattle.receiving.specs.Storing.{CanStore, CanPut, RingFits}
+use Rattle.receiving.specs.Needs.{CanStore, CanPut, RingFits}
 
 -- ---- at a place, and in a slot
 
-pub stored-at : (mem last : List ℕ) (a : Area) (place at n : ℕ) (m : Matched) (f : Frame) (time : ℕ) (d : List ℕ) → at ≡ placeIn a place → n ≡ dataWords a
-    → last ≡ splice mem at (rxElement m f time d n) → last ≡ splice mem (placeIn a place) (rxElement m f time d (dataWords a))
-stored-at mem last a place at n m f time d e q h = h ∙ ap₂ (λ (k i : ℕ). splice mem k (rxElement m f time d i)) e q
+pub stored-at : (mem last : List ℕ) (area : Area) (place at n : ℕ) (a : Arrival) (d : List ℕ)
+    → at ≡ placeIn area place → n ≡ dataWords area → last ≡ splice mem at (rxElement a d n)
+    → last ≡ splice mem (placeIn area place) (rxElement a d (dataWords area))
+stored-at mem last area place at n a d e q h = h ∙ ap₂ (λ (k i : ℕ). splice mem k (rxElement a d i)) e q
 
-module _ (a : Area) (slot : Slot) where
-  pub slot-place : (m : Matched) (f : Frame) (words p : ℕ) → CanPut a slot m f words → slot ≡ At p → CanStore a p m f words
-  slot-place m f words p h e = record { room = h .room; within = h .within p e; fields = h .fields }
+module _ (area : Area) (slot : Slot) where
+  pub slot-place : (a : Arrival) (words p : ℕ) → CanPut area slot a words → slot ≡ At p → CanStore area p a words
+  slot-place a words p h e = record { element = record { room = h .room; within = h .within p e }; fields = h .fields }
 
   module _ (mem ws : List ℕ) where
-    pub put-at : (last : List ℕ) (p : ℕ) → slot ≡ At p → last ≡ splice mem (placeIn a p) ws → last ≡ slotMemory mem a ws slot
+    pub put-at : (last : List ℕ) (p : ℕ) → slot ≡ At p → last ≡ splice mem (placeIn area p) ws → last ≡ slotMemory mem area ws slot
     put-at last p e h = rw e h
 
-    pub put-nowhere : slot ≡ Lost → mem ≡ slotMemory mem a ws slot
+    pub put-nowhere : slot ≡ Lost → mem ≡ slotMemory mem area ws slot
     put-nowhere e = rw e refl
 
 -- ---- what a FIFO keeps
 
-module _ (regs : Registers) (fifo : ℕ) (q : Ring) (w : Rxfc) (size mark mode : ℕ) (e : w .word ≡ fifoWord regs fifo) (a : size ≡ bits 22 16 (w .word)) (b : mark ≡ bits 30 24 (w .word)) (c : mode ≡ bits 31 31 (w .word)) where
+module _ (s : State) (fifo : ℕ) (w : Rxfc) (size mark mode : ℕ) (q : Ring) (e : w .word ≡ fifoWord (s .regs) fifo)
+    (a : size ≡ field rxfcCount (w .word)) (b : mark ≡ field rxfcWatermark (w .word)) (c : mode ≡ field rxfcOverwrite (w .word))
+    (y : q ≡ fifoRing s fifo) where
   abbrev made : Keeper
   made = record { size = size; mark = mark; overwrites = eqb mode 1; first = 4 * fifo }
 
-  made-is : made ≡ keeperOf regs fifo
+  made-is : made ≡ keeperOf (s .regs) fifo
   made-is = simp (a, b, c, e)
 
-  pub can-keep : RingFits regs fifo q → CanKeep made q
-  can-keep h = record { ring = rw (a, e) (h .ring); flags = omega (arith, h .number) }
+  pub can-keep : RingFits s fifo → CanKeep made q
+  can-keep h = record { ring = rw (y, a, e) (h .ring); flags = omega (arith, h .number) }
 
-  pub kept-in : (status : Record) (k : Kept) → k ≡ keepRule made q status → k ≡ keepRule (keeperOf regs fifo) q status
-  kept-in status k h = h ∙ ap (λ (x : Keeper). keepRule x q status) made-is
+  pub kept-in : (r : Record) (k : Kept) → k ≡ keepRule made q r → k ≡ keepRule (keeperOf (s .regs) fifo) (fifoRing s fifo) r
+  kept-in r k h = h ∙ ap₂ (λ (x : Keeper) (p : Ring). keepRule x p r) made-is y

@@ -1,6 +1,5 @@
 pub mod Fifos
-pub mod Judging
+pub mod Priority
 pub mod Receive
-pub mod Noting
-pub mod Storing
+pub mod Needs
 pub mod Promises

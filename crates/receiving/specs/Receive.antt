@@ -1,36 +1,36 @@
--- Call 2, receive: the whole outcome.
-use Prim.Native.Nat.{ℕ, _+_}
+-- Call 2, receive.
+use Prim.Native.Nat.{ℕ}
 use mathlib.Core.Bool.{Bool, not, _&&_}
 use mathlib.Core.List.{List, [], _∷_}
-use lib.Dec.{eqb}
 use lib.ListN.{length}
-use Rattle.words.specs.Choice.{pick}
 use Rattle.words.specs.Bits.{withBit}
-use Rattle.words.specs.Rules.{refuseIf, first, settle}
 use Rattle.words.specs.Runs.{splice}
+use Rattle.shape.specs.Calls.{Says, refuses, answers, tells, call}
+use Rattle.shape.specs.Refusals.{Refusals}
+use Rattle.places.specs.Areas.{placeIn}
+use Rattle.places.specs.Slots.{slotMemory}
+use Rattle.places.specs.declared.Slot.{Slot}
+use Rattle.places.specs.declared.Slot.the-variants.{At, Lost}
 use Rattle.frame.specs.Malformed.{malformed}
 use Rattle.frame.specs.declared.Frame.{Frame}
 use Rattle.frame.specs.declared.Matched.{Matched}
 use Rattle.frame.specs.declared.Matched.the-variants.{Filter}
-use Rattle.element.specs.Fitting.{indexOf}
 use Rattle.element.specs.Elements.{rxElement}
+use Rattle.element.specs.Fitting.{indexOf}
+use Rattle.element.specs.declared.Arrival.{Arrival}
 use Rattle.filter.specs.Destination.{Goes, toFifo, toBuffer, discarded, reason, destination}
-use Rattle.filter.specs.declared.Reason.the-variants.{PriorityOnly}
-use Rattle.engine.specs.Answers.{Says, refuses, answers, numberOf}
-use Rattle.engine.specs.Areas.{fifoArea, bufferArea, placeIn, dataWords}
-use Rattle.engine.specs.Fitness.{unfit}
-use Rattle.engine.specs.Flags.{raised, withPriority, priorityWord}
-use Rattle.engine.specs.Keeping.{keepRule, slotMemory}
+use Rattle.areas.specs.Areas.{fifoArea, bufferArea, dataWords}
+use Rattle.engine.specs.Answers.{told}
+use Rattle.engine.specs.Calls.{World, world, withRecorded, Outcome, Effect, _when_, isUnfit}
+use Rattle.engine.specs.Flags.{raised}
+use Rattle.engine.specs.Keeping.{keepRule}
 use Rattle.engine.specs.States.{fifoRing, withFifo, withNewData}
-use Rattle.engine.specs.declared.keeping.Slot.{Slot}
-use Rattle.engine.specs.declared.keeping.Slot.the-variants.{At, Lost}
-use Rattle.engine.specs.declared.keeping.Kept.{Kept}
-use Rattle.engine.specs.declared.state.State.{State}
-use Rattle.engine.specs.declared.state.Record.{Record}
 use Rattle.receiving.specs.Fifos.{keeperOf}
+use Rattle.receiving.specs.Priority.{slotNoted, dropNoted}
 use Rattle.receiving.specs.declared.receive.Received
 use Rattle.receiving.specs.declared.receive.Received.{Received}
-use Rattle.receiving.specs.declared.receive.AfterReceive.{AfterReceive}
+
+-- ---- what it tells
 
 -- what became of a frame, with the filter element that matched it, if one did
 pub data Fate : Type 0 where
@@ -43,98 +43,65 @@ pub data Fate : Type 0 where
   -- the reason's number
   dropped : ℕ → Matched → Fate
 
+-- what the code answers
 abbrev pub meaning : Received → Says Fate
 meaning (Received.the-variants.Stored fifo place m) = answers (stored fifo place m)
 meaning (Received.the-variants.StoredBuffer buffer i) = answers (storedBuffer buffer i)
 meaning (Received.the-variants.Lost fifo m) = answers (lostTo fifo m)
 meaning (Received.the-variants.Discarded why m) = answers (dropped (reason why) m)
-meaning (Received.the-variants.Refused n) = refuses (numberOf n)
+meaning (Received.the-variants.Refused n) = refuses (told n)
 
--- all that a receive settles
-pub record ReceiveOutcome : Type 0 where
-  pub says : Says Fate
-  pub state : State
-  pub status : Record
-  pub memory : List ℕ
+-- ---- what is against it
 
-abbrev pub receiveOutcome : AfterReceive → List ℕ → ReceiveOutcome
-receiveOutcome r mem = record { says = meaning (r .answer); state = r .state; status = r .status; memory = mem }
+unfoldable pub receiveRefusals : World → Frame → ℕ → Refusals
+receiveRefusals w f bytes =
+    20 when isUnfit w ∷ 21 when malformed f bytes ∷ 22 when (f .fdf && not (w .state .regs .fdon)) ∷ []
 
--- a priority match: flag 8, and the priority word with the frame's kind of list, the index, the outcome and the element
-abbrev pub prioritised : Record → Bool → ℕ → ℕ → ℕ → Record
-prioritised r xtd index outcome place = withPriority (raised r 8) (priorityWord xtd index outcome place)
+-- ---- what it does, by where the frame goes
 
--- in a FIFO's slot: the answer, the memory, and the priority record's outcome and element
+abbrev pub arrival : Frame → ℕ → Matched → Arrival
+arrival f time m = record { frame = f; time = time; matched = m }
+
+-- what a FIFO's slot tells
 abbrev pub slotSays : ℕ → Matched → Slot → Fate
 slotSays fifo m (At p) = stored fifo p m
 slotSays fifo m Lost = lostTo fifo m
 
--- the same as the code answers it
-abbrev pub slotAnswer : ℕ → Matched → Slot → Received
-slotAnswer fifo m (At p) = Received.the-variants.Stored fifo p m
-slotAnswer fifo m Lost = Received.the-variants.Lost fifo m
-
-abbrev pub slotOutcome : ℕ → Slot → ℕ
-slotOutcome fifo (At p) = 2 + fifo
-slotOutcome fifo Lost = 1
-
-abbrev pub slotPlace : Slot → ℕ
-slotPlace (At p) = p
-slotPlace Lost = 0
-
--- the record after a slot, with priority or without, and after a discard, which notes a match for priority only
-abbrev pub slotNoted : Record → Bool → Bool → Matched → ℕ → Slot → Record
-slotNoted r priority xtd m fifo slot = pick priority (prioritised r xtd (indexOf m) (slotOutcome fifo slot) (slotPlace slot)) r
-
-abbrev pub keptNoted : Kept → Bool → Bool → Matched → ℕ → Kept
-keptNoted k priority xtd m fifo = record { slot = k .slot; ring = k .ring; status = slotNoted (k .status) priority xtd m fifo (k .slot) }
-
-abbrev pub dropNoted : Record → Bool → ℕ → Matched → Record
-dropNoted r xtd why m = pick (eqb why (reason PriorityOnly)) (prioritised r xtd (indexOf m) 0 0) r
-
 -- 6: to FIFO 0 or 1, with priority or without
-unfoldable pub intoFifo : State → Record → List ℕ → Frame → List ℕ → ℕ → ℕ → Bool → Matched → ReceiveOutcome
-intoFifo s r mem f d time fifo priority m =
-    let k = keepRule (keeperOf (s .regs) fifo) (fifoRing s fifo) r in
-    let a = fifoArea (s .regs) fifo in
-    record {
-      says = answers (slotSays fifo m (k .slot));
-      state = withFifo s fifo (k .ring);
-      status = slotNoted (k .status) priority (f .xtd) m fifo (k .slot);
-      memory = slotMemory mem a (rxElement m f time d (dataWords a)) (k .slot);
-    }
+unfoldable pub intoFifo : World → ℕ → Bool → Arrival → List ℕ → Effect Fate
+intoFifo w fifo priority a d =
+    let s = w .state in
+    let k = keepRule (keeperOf (s .regs) fifo) (fifoRing s fifo) (w .recorded) in
+    let area = fifoArea (s .regs) fifo in
+    tells (slotSays fifo (a .matched) (k .slot))
+    (world
+    (withFifo s fifo (k .ring))
+    (slotNoted (k .recorded) priority a fifo (k .slot))
+    (slotMemory (w .memory) area (rxElement a d (dataWords area)) (k .slot)))
 
 -- 5: storing in an Rx buffer sets its new-data bit, and flag 19
-unfoldable pub intoBuffer : State → Record → List ℕ → Frame → List ℕ → ℕ → ℕ → ℕ → ReceiveOutcome
-intoBuffer s r mem f d time buffer i =
-    let a = bufferArea (s .regs) in
-    record {
-      says = answers (storedBuffer buffer i);
-      state = withNewData s (withBit (s .newdata) buffer);
-      status = raised r 19;
-      memory = splice mem (placeIn a buffer) (rxElement (Filter i) f time d (dataWords a));
-    }
+unfoldable pub intoBuffer : World → ℕ → Arrival → List ℕ → Effect Fate
+intoBuffer w buffer a d =
+    let s = w .state in
+    let area = bufferArea (s .regs) in
+    tells (storedBuffer buffer (indexOf (a .matched)))
+    (world
+    (withNewData s (withBit (s .newdata) buffer))
+    (raised (w .recorded) 19)
+    (splice (w .memory) (placeIn area buffer) (rxElement a d (dataWords area))))
 
 -- discarded: nothing changes, but for the record where the match was for priority only
-unfoldable pub intoNothing : State → Record → List ℕ → Frame → ℕ → Matched → ReceiveOutcome
-intoNothing s r mem f why m = record {
-  says = answers (dropped why m);
-  state = s;
-  status = dropNoted r (f .xtd) why m;
-  memory = mem;
-}
+unfoldable pub intoNothing : World → ℕ → Arrival → Effect Fate
+intoNothing w why a = tells (dropped why (a .matched)) (withRecorded w (dropNoted (w .recorded) a why))
 
-abbrev pub goesTo : State → Record → List ℕ → Frame → List ℕ → ℕ → Goes → ReceiveOutcome
-goesTo s r mem f d time (toFifo fifo priority m) = intoFifo s r mem f d time fifo priority m
-goesTo s r mem f d time (toBuffer buffer i) = intoBuffer s r mem f d time buffer i
-goesTo s r mem f d time (discarded why m) = intoNothing s r mem f why m
+abbrev pub goesTo : World → Frame → List ℕ → ℕ → Goes → Effect Fate
+goesTo w f d time (toFifo fifo priority m) = intoFifo w fifo priority (arrival f time m) d
+goesTo w f d time (toBuffer buffer i) = intoBuffer w buffer (arrival f time (Filter i)) d
+goesTo w f d time (discarded why m) = intoNothing w why (arrival f time m)
 
-unfoldable pub receiveRule : State → Record → List ℕ → Frame → List ℕ → ℕ → ReceiveOutcome
-receiveRule s r mem f d time =
-    settle (first (
-    refuseIf (unfit s r (length mem)) 20
-    ∷ refuseIf (malformed f (length d)) 21
-    ∷ refuseIf (f .fdf && not (s .regs .fdon)) 22
-    ∷ []))
-    (goesTo s r mem f d time (destination (s .regs) mem f (s .newdata)))
-    (λ n. record { says = refuses n; state = s; status = r; memory = mem })
+abbrev pub receives : World → Frame → List ℕ → ℕ → Effect Fate
+receives w f d time = goesTo w f d time (destination (w .state .regs) (w .memory) f (w .state .newdata))
+
+-- call 2
+abbrev pub receive : World → Frame → List ℕ → ℕ → Outcome Fate
+receive w f d time = call w [] (receiveRefusals w f (length d)) (receives w f d time)

@@ -1,4 +1,4 @@
-// Call 2, receive; and what is promised of calls 2 to 6.
+// Call 2, receive.
 mod judging;
 mod noting;
 pub mod receive;

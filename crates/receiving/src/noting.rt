@@ -1,20 +1,29 @@
 // What a match for priority leaves in the record.
+use element::Arrival;
+use engine::flags::PRIORITY;
 use engine::flags::priority_word;
 use engine::flags::raise;
 use engine::flags::set_priority;
-use engine::keeping::Slot;
 use engine::state::Record;
 use filter::Reason;
 use frame::Matched;
+use places::Slot;
 ghost use mathlib.Core.Path.{_≡_};
-ghost use lib.Dec.{eqb};
+ghost use Prim.Native.Nat.{_<_};
 ghost use Rattle.element.specs.Fitting.{indexOf};
 ghost use Rattle.filter.specs.Destination.{reason};
-ghost use Rattle.receiving.specs.Receive.{prioritised, slotNoted, dropNoted};
-ghost use Rattle.receiving.specs.Noting.{Notable, SlotNotable, DropNotable};
+ghost use Rattle.receiving.specs.Priority.{prioritised, slotNoted, dropNoted};
+ghost use Rattle.receiving.specs.Needs.{Notable, SlotNotable};
+
+// The outcome in the priority word: no FIFO, lost to one, or stored, which FIFO 1 has one more for.
+const NO_FIFO: u32 = 0;
+
+const LOST: u32 = 1;
+
+const STORED: u32 = 2;
 
 // The index of the filter that matched, 0 if none did.
-fn index_of(m: Matched) -> u32
+pub fn index_of(m: Matched) -> u32
     ensures { λ i. ⌜ i ≡ indexOf m ⌝ }
 {
     match m {
@@ -23,52 +32,36 @@ fn index_of(m: Matched) -> u32
     }
 }
 
-// Flag 8, and the priority word.
-fn prioritise(status: Record, xtd: bool, index: u32, outcome: u32, place: u32) -> Record
-    requires { ⌜ Notable index outcome place ⌝ }
-    ensures { λ r. ⌜ r ≡ prioritised status xtd index outcome place ⌝ }
+fn prioritise(recorded: Record, a: Arrival, outcome: u32, place: u32) -> Record
+    requires { ⌜ Notable a outcome place ⌝ }
+    ensures { λ r. ⌜ r ≡ prioritised recorded a outcome place ⌝ }
 {
-    set_priority(raise(status, 8), priority_word(xtd, index, outcome, place))
+    let m = a.matched;
+    let word = priority_word(a.frame.xtd, index_of(m), outcome, place);
+    set_priority(raise(recorded, PRIORITY), word)
 }
 
-// Of a frame that went to a slot of FIFO 0 or 1, with priority or without.
-pub fn note_slot(
-    status: Record,
-    priority: bool,
-    xtd: bool,
-    m: Matched,
-    fifo: u32,
-    slot: Slot,
-) -> Record
-    requires { ⌜ SlotNotable m fifo slot ⌝ }
-    ensures { λ r. ⌜ r ≡ slotNoted status priority xtd m fifo slot ⌝ }
+// Of an arrival that went to a slot of FIFO 0 or 1, with priority or without.
+pub fn note_slot(recorded: Record, priority: bool, a: Arrival, fifo: u32, slot: Slot) -> Record
+    requires { ⌜ SlotNotable a fifo slot ⌝ }
+    ensures { λ r. ⌜ r ≡ slotNoted recorded priority a fifo slot ⌝ }
 {
     if !priority {
-        return status;
+        return recorded;
     }
     match slot {
-        Slot::At(place) => prioritise(status, xtd, index_of(m), 2 + fifo, place),
-        Slot::Lost => prioritise(status, xtd, index_of(m), 1, 0),
+        Slot::At(place) => prioritise(recorded, a, STORED + fifo, place),
+        Slot::Lost => prioritise(recorded, a, LOST, 0),
     }
 }
 
-// Whether a frame was discarded after a match for priority only.
-fn priority_only(why: Reason) -> bool
-    ensures { λ b. ⌜ b ≡ eqb (reason why) 3 ⌝ }
+// Of an arrival that is discarded.
+pub fn note_drop(recorded: Record, a: Arrival, why: Reason) -> Record
+    requires { ⌜ indexOf (a .matched) < 128 ⌝ }
+    ensures { λ r. ⌜ r ≡ dropNoted recorded a (reason why) ⌝ }
 {
     match why {
-        Reason::PriorityOnly => true,
-        _ => false,
+        Reason::PriorityOnly => prioritise(recorded, a, NO_FIFO, 0),
+        _ => recorded,
     }
-}
-
-// Of a frame that is discarded.
-pub fn note_drop(status: Record, xtd: bool, why: Reason, m: Matched) -> Record
-    requires { ⌜ DropNotable m ⌝ }
-    ensures { λ r. ⌜ r ≡ dropNoted status xtd (reason why) m ⌝ }
-{
-    if priority_only(why) {
-        return prioritise(status, xtd, index_of(m), 0, 0);
-    }
-    status
 }

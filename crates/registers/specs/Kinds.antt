@@ -1,4 +1,4 @@
--- The named fields of each register kind, as document 01's table has them: each by one name, and every other bit must be 0.
+-- The fields of each register kind, each by one name, as document 01's table has them. Every other bit must be 0.
 use Prim.Native.Nat.{ℕ, _+_, _-_, _*_, _^_, _<_}
 use mathlib.Core.List.{List, [], _∷_}
 use Rattle.words.specs.Fields.{bits}

@@ -1,16 +1,16 @@
 // A type for each register kind: its reset word, its legal bits, the most its count may be, and where its fields stand.
-// A field is `word / AT % SIZE`; `new` puts a word together from its fields.
+// A field is `word / AT % SIZE`, at the bits that specs/Kinds gives it; `new` puts a word together from its fields.
 use words::WordAddress;
 ghost use mathlib.Core.Path.{_≡_};
 ghost use Prim.Native.Nat.{_+_};
 ghost use Rattle.words.specs.Fields.{onlyNamed};
-ghost use Rattle.registers.specs.Kinds.{field, put, Holds, sectionStart, sidfc, sidfcCount, xidfc, xidfcCount};
-ghost use Rattle.registers.specs.Kinds.{rxfc, rxfcOverwrite, rxfcWatermark, rxfcCount, rxbc, rxesc, rxescBuffers};
-ghost use Rattle.registers.specs.Kinds.{rxescFifo1, rxescFifo0, txefc, txefcWatermark, txefcCount, txbc};
-ghost use Rattle.registers.specs.Kinds.{txbcQueue, txbcShared, txbcDedicated, txesc, txescSize, gfc, gfcAnfs};
-ghost use Rattle.registers.specs.Kinds.{gfcAnfe, gfcRrfs, gfcRrfe, xidam, idMask};
+ghost use Rattle.registers.specs.Kinds.{field, put, Holds, sectionStart};
+ghost use Rattle.registers.specs.Kinds.{sidfc, sidfcCount, xidfc, xidfcCount, rxfc, rxfcOverwrite, rxfcWatermark};
+ghost use Rattle.registers.specs.Kinds.{rxfcCount, rxbc, rxesc, rxescBuffers, rxescFifo1, rxescFifo0};
+ghost use Rattle.registers.specs.Kinds.{txefc, txefcWatermark, txefcCount, txbc, txbcQueue, txbcShared, txbcDedicated};
+ghost use Rattle.registers.specs.Kinds.{txesc, txescSize, gfc, gfcAnfs, gfcAnfe, gfcRrfs, gfcRrfe, xidam, idMask};
 
-// 11-bit filters: count 23:16, start 15:2.
+// 11-bit filters: count and start.
 pub struct Sidfc {
     pub word: u32,
 }
@@ -62,7 +62,7 @@ impl Sidfc {
     }
 }
 
-// 29-bit filters: count 22:16, start 15:2.
+// 29-bit filters: count and start.
 pub struct Xidfc {
     pub word: u32,
 }
@@ -114,7 +114,7 @@ impl Xidfc {
     }
 }
 
-// An Rx FIFO: overwrite 31, watermark 30:24, count 22:16, start 15:2.
+// An Rx FIFO: overwrite, watermark, count and start.
 pub struct Rxfc {
     pub word: u32,
 }
@@ -193,7 +193,7 @@ impl Rxfc {
     }
 }
 
-// Rx buffers, whose count is a number of its own: start 15:2.
+// Rx buffers, whose count is a number of its own: start.
 pub struct Rxbc {
     pub word: u32,
 }
@@ -231,7 +231,7 @@ impl Rxbc {
     }
 }
 
-// Sizes of Rx elements: buffers 10:8, fifo1 6:4, fifo0 2:0.
+// Size codes of Rx elements: buffers, FIFO 1 and FIFO 0.
 pub struct Rxesc {
     pub word: u32,
 }
@@ -290,7 +290,7 @@ impl Rxesc {
     }
 }
 
-// Tx events: watermark 29:24, count 21:16, start 15:2.
+// Tx events: watermark, count and start.
 pub struct Txefc {
     pub word: u32,
 }
@@ -355,7 +355,7 @@ impl Txefc {
     }
 }
 
-// Tx buffers: queue 30, shared 29:24, dedicated 21:16, start 15:2.
+// Tx buffers: queue, shared, dedicated and start.
 pub struct Txbc {
     pub word: u32,
 }
@@ -434,7 +434,7 @@ impl Txbc {
     }
 }
 
-// Size of Tx elements: size 2:0.
+// Size code of Tx elements.
 pub struct Txesc {
     pub word: u32,
 }
@@ -470,7 +470,7 @@ impl Txesc {
     }
 }
 
-// What becomes of frames that no filter matches, and of remote frames: anfs 5:4, anfe 3:2, rrfs 1, rrfe 0.
+// What becomes of frames that no filter matches, and of remote ones, by 11 and 29 bits.
 pub struct Gfc {
     pub word: u32,
 }
@@ -543,7 +543,7 @@ impl Gfc {
     }
 }
 
-// The mask of 29-bit identifiers: mask 28:0.
+// The mask of 29-bit identifiers.
 pub struct Xidam {
     pub word: u32,
 }

@@ -1,1 +1,3 @@
 pub mod Reporting
+pub mod Needs
+pub mod Promises

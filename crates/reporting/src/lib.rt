@@ -1,4 +1,4 @@
 // Call 11, report sent.
+mod event;
 mod judging;
 pub mod report;
-mod telling;

@@ -1,36 +1,32 @@
 // Call 11, report sent.
+use crate::event::AfterEvent;
+use crate::event::tell_event;
 use crate::judging::judge_report;
-use crate::telling::tell_event;
-use engine::fitness::is_queue;
+use choosing::buffers::in_shared_fifo;
+use engine::flags::SENT;
+use engine::flags::TX_FIFO_EMPTIED;
 use engine::flags::raise;
 use engine::flags::raise_if;
 use engine::refusals::Judged;
 use engine::refusals::Reply;
 use engine::state::Record;
 use engine::state::State;
-use registers::Registers;
 use ring::Ring;
 use words::bits32;
 ghost use mathlib.Core.Path.{_≡_};
-ghost use mathlib.Core.Bool.{not, _&&_};
 ghost use Prim.Native.Nat.{_<_};
-ghost use lib.Dec.{leb};
 ghost use lib.ListN.{length};
-ghost use Rattle.engine.specs.Areas.{dedicated, isQueue};
+ghost use Rattle.shape.specs.Calls.{settles};
+ghost use Rattle.engine.specs.Answers.{replied};
+ghost use Rattle.engine.specs.Calls.{world};
 ghost use Rattle.engine.specs.Flags.{raised, raisedIf};
-ghost use Rattle.reporting.specs.Reporting.{reportOutcome, sharedSent, reported, reportRule, Reportable, sentWith};
+ghost use Rattle.reporting.specs.Reporting.{sharedSent, sentWith, reports, reportSent};
+ghost use Rattle.reporting.specs.Needs.{Reportable};
 
 pub struct AfterReport {
     pub reply: Reply,
     pub state: State,
-    pub status: Record,
-}
-
-// Whether a buffer is in the shared part, and that is a FIFO.
-fn in_shared_fifo(r: Registers, buffer: u32) -> bool
-    ensures { λ b. ⌜ b ≡ (leb (dedicated r) buffer && not (isQueue r)) ⌝ }
-{
-    (r.txbc.dedicated() <= buffer) & !is_queue(r)
+    pub recorded: Record,
 }
 
 // The shared ring after the send of a buffer: its head moves where the buffer is in it.
@@ -55,31 +51,31 @@ fn with_sent(s: State, next: Ring, buffer: u32) -> State
     n
 }
 
-// Sent 9, and 11 where this send emptied the shared FIFO.
 fn sent_flags(r: Record, emptied: bool) -> Record
     ensures { λ n. ⌜ n ≡ raisedIf (raised r 9) emptied 11 ⌝ }
 {
-    raise_if(raise(r, 9), emptied, 11)
+    raise_if(raise(r, SENT), emptied, TX_FIFO_EMPTIED)
 }
 
 // The event comes last: it is kept in the state and the record after the send.
 fn report(
     s: State,
-    status: Record,
+    recorded: Record,
     mem: &mut [u32],
     buffer: u32,
     passive: bool,
     time: u16,
-) -> AfterReport
+) -> AfterEvent
     requires { ⌜ Reportable s (length (now mem)) buffer ⌝ }
-    ensures { λ r. ⌜ reportOutcome r (now (mem .exit)) ≡ reported s status (now (mem .entry)) buffer passive time ⌝ }
+    ensures { λ r. ⌜ world (r .state) (r .recorded) (now (mem .exit))
+        ≡ reports (world s recorded (now (mem .entry))) buffer passive time ⌝ }
 {
     let next = shared_sent(s, mem.len(), buffer);
     let emptied = in_shared_fifo(s.regs, buffer) & (next.fill == 0);
     let sent = with_sent(s, next, buffer);
     tell_event(
         sent,
-        sent_flags(status, emptied),
+        sent_flags(recorded, emptied),
         mem,
         buffer,
         passive,
@@ -87,22 +83,33 @@ fn report(
     )
 }
 
+// Reports that the present choice was sent.
 pub fn report_sent(
     s: State,
-    status: Record,
+    recorded: Record,
     mem: &mut [u32],
     buffer: u32,
     passive: bool,
     time: u16,
 ) -> AfterReport
-    ensures { λ r. ⌜ reportOutcome r (now (mem .exit)) ≡ reportRule s status (now (mem .entry)) buffer passive time ⌝ }
+    ensures { λ r. ⌜ settles (replied (r .reply)) (world (r .state) (r .recorded) (now (mem .exit)))
+        ≡ reportSent (world s recorded (now (mem .entry))) buffer passive time ⌝ }
 {
-    match judge_report(s, status, mem, buffer) {
+    match judge_report(s, recorded, mem, buffer) {
         Judged::Refused(n) => AfterReport {
             reply: Reply::Refused(n),
             state: s,
-            status,
+            recorded,
         },
-        Judged::Allowed => report(s, status, mem, buffer, passive, time),
+        Judged::Allowed => {
+            let after = report(s, recorded, mem, buffer, passive, time);
+            let state = after.state;
+            let recorded = after.recorded;
+            AfterReport {
+                reply: Reply::Done,
+                state,
+                recorded,
+            }
+        }
     }
 }

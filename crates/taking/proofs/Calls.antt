@@ -1,132 +1,118 @@
 -- The cases of calls 3 to 6, one law each.
 -- Assumes nothing.
-use Prim.Native.Nat.{ℕ}
-use mathlib.Core.Path.{_≡_, refl, sym, ap, _∙_}
-use mathlib.Core.Bool.{Bool, true}
-use mathlib.Core.List.{List, [], _∷_}
-use borrow.Author.Tests.{eq-eqb, ne-eqb}
+use Prim.Native.Nat.{ℕ, _≤_}
+use mathlib.Core.Path.{_≡_, sym, ap, ap₂, _∙_}
+use mathlib.Core.Bool.{true}
+use mathlib.Core.List.{List, _++_}
 use lib.ListN.{length}
-use Rattle.words.specs.Bits.{withoutBit}
-use Rattle.words.specs.Fields.{bits}
-use Rattle.words.specs.Rules.{Ruling, allowed, refused, refuseIf, first, settle}
+use Rattle.words.specs.Rules.{allowed, _orElse_, first}
 use Rattle.words.specs.Runs.{splice}
 use Rattle.ring.specs.Rings.{Fit, held, releasedThrough}
 use Rattle.ring.specs.declared.Ring.{Ring}
+use Rattle.shape.specs.Calls.{refuses, answers, outcome, call}
+use Rattle.shape.specs.Refusals.{Refusals}
+use Rattle.shape.proofs.Calls.{rows-both}
+use Rattle.places.specs.Areas.{placeIn}
+use Rattle.places.specs.declared.Area.{Area}
+use Rattle.registers.specs.Fields.{fifoWord, fifoSize, buffers}
+use Rattle.registers.specs.Kinds.{field, rxfcCount}
 use Rattle.registers.specs.declared.kinds.Rxfc.{Rxfc}
 use Rattle.element.specs.Bytes.{rxRead, readBytes}
 use Rattle.element.specs.declared.RxRead.{RxRead}
-use Rattle.engine.specs.Areas.{fifoWord, fifoSize, fifoArea, bufferArea, placeIn, dataWords}
-use Rattle.engine.specs.Fitness.{unfit, fitThen}
-use Rattle.engine.specs.States.{fifoRing, withFifo, withNewData}
-use Rattle.engine.specs.declared.areas.Area.{Area}
-use Rattle.engine.specs.declared.refusals.Refusal.{Refusal}
-use Rattle.engine.specs.declared.refusals.Refusal.the-variants.{WrongOutput}
-use Rattle.engine.specs.declared.refusals.Reply
-use Rattle.engine.specs.declared.state.State.{State}
-use Rattle.engine.specs.declared.state.Record.{Record}
-use Rattle.engine.specs.Answers.{wrongOutput, ruled}
-use Rattle.taking.specs.Places.{noPlace, placeFree, noBuffer, bufferFree}
-use Rattle.taking.specs.Judging.{placeRuling, bitRuling}
-use Rattle.taking.specs.Reading.{readOutcome, readIn, unread, readOrNot, readFifoRule, readBufferRule}
-use Rattle.taking.specs.Releasing.{releaseOutcome, acknowledgeRule, releaseRule, released, HoldsPlace}
+use Rattle.areas.specs.Areas.{fifoArea, bufferArea, dataWords}
+use Rattle.engine.specs.Answers.{told, ruled}
+use Rattle.engine.specs.Calls.{world, outputRefusals}
+use Rattle.engine.specs.Needs.{HoldsPlace}
+use Rattle.engine.specs.States.{fifoRing, withFifo}
 use Rattle.engine.specs.declared.refusals.Judged.{Judged}
 use Rattle.engine.specs.declared.refusals.Judged.the-variants.{Allowed, Refused}
-use Rattle.taking.specs.declared.reading.ReadAnswer
-use Rattle.taking.specs.declared.reading.ReadAnswer.{ReadAnswer}
+use Rattle.engine.specs.declared.refusals.Refusal.{Refusal}
+use Rattle.engine.specs.declared.state.State.{State}
+use Rattle.engine.specs.declared.state.Record.{Record}
+use Rattle.engine.proofs.Calls.{judged-then, output-fits, judged-refused, judged-done}
+use Rattle.taking.specs.Needs.{CanRead}
+use Rattle.taking.specs.Places.{fifoRefusals, bufferRefusals}
+use Rattle.taking.specs.Reading.{reads}
+use Rattle.taking.specs.Releasing.{released}
+use Rattle.taking.proofs.Judgements.{fifo-open, buffer-open}
 
 -- ---- releasing
 
-module _ (s : State) (fifo place : ℕ) (q : Ring) (w : Rxfc) (n : ℕ) (a : q ≡ fifoRing s fifo) (c : w .word ≡ fifoWord (s .regs) fifo) (d : n ≡ bits 22 16 (w .word)) where
+module _ (s : State) (fifo place : ℕ) (q : Ring) (w : Rxfc) (n : ℕ) (a : q ≡ fifoRing s fifo)
+    (c : w .word ≡ fifoWord (s .regs) fifo) (d : n ≡ field rxfcCount (w .word)) where
   size-is : n ≡ fifoSize (s .regs) fifo
-  size-is = d ∙ ap (bits 22 16) c
+  size-is = d ∙ ap (field rxfcCount) c
 
-  pub place-fits : HoldsPlace s fifo place → Fit q n
-  place-fits h = rw (a, size-is) (h .ring)
+  module _ (h : HoldsPlace (fifoRing s fifo) (fifoSize (s .regs) fifo) place) where
+    pub place-fits : Fit q n
+    place-fits = rw (a, size-is) (h .ring)
 
-  pub place-holds : HoldsPlace s fifo place → held q n place ≡ true
-  place-holds h = rw (a, size-is) (h .holds)
+    pub place-holds : held q n place ≡ true
+    place-holds = rw (a, size-is) (h .holds)
 
-  pub place-released : (next : Ring) (t : State) → next ≡ releasedThrough q n place → t ≡ withFifo s fifo next → t ≡ released s fifo place
+  pub place-released : (next : Ring) (t : State) → next ≡ releasedThrough q n place → t ≡ withFifo s fifo next
+      → t ≡ released s fifo place
   unfolding released
   place-released next t e u = u ∙ ap (withFifo s fifo) (e ∙ simp (a, size-is))
 
-module _ (s : State) (r : Record) (words : ℕ) (j : Judged) where
-  module _ (fifo place : ℕ) (e : ruled j ≡ fitThen s r words (placeRuling (fifoRing s fifo) fifo (fifoSize (s .regs) fifo) place)) where
-    pub acknowledge-refused : (n : Refusal) → j ≡ Refused n → releaseOutcome (record { reply = Reply.the-variants.Refused n; state = s }) ≡ acknowledgeRule s r words fifo place
-    unfolding acknowledgeRule placeRuling
-    acknowledge-refused n y = simp (← e, y)
+-- ---- reading: the element
 
-    pub acknowledged : (t : State) → j ≡ Allowed → t ≡ released s fifo place → releaseOutcome (record { reply = Reply.the-variants.Done; state = t }) ≡ acknowledgeRule s r words fifo place
-    unfolding acknowledgeRule placeRuling released
-    acknowledged t y u = simp (← e, y, u)
+module _ (mem : List ℕ) (a : Area) (place at n : ℕ) (e : at ≡ placeIn a place) (d : n ≡ dataWords a) where
+  pub read-told : (h : RxRead) → h ≡ rxRead mem at n → h ≡ rxRead mem (placeIn a place) (dataWords a)
+  read-told h p = p ∙ ap₂ (rxRead mem) e d
 
-  module _ (buffer : ℕ) (e : ruled j ≡ fitThen s r words (bitRuling (s .newdata) (s .regs .buffers) buffer)) where
-    pub release-refused : (n : Refusal) → j ≡ Refused n → releaseOutcome (record { reply = Reply.the-variants.Refused n; state = s }) ≡ releaseRule s r words buffer
-    unfolding releaseRule bitRuling
-    release-refused n y = simp (← e, y)
+  pub read-written : (out last : List ℕ) → last ≡ splice out 0 (readBytes mem at n)
+      → last ≡ splice out 0 (readBytes mem (placeIn a place) (dataWords a))
+  read-written out last q = q ∙ ap₂ (λ (x y : ℕ). splice out 0 (readBytes mem x y)) e d
 
-    pub buffer-released : (t : State) → j ≡ Allowed → t ≡ withNewData s (withoutBit 64 (s .newdata) buffer)
-        → releaseOutcome (record { reply = Reply.the-variants.Done; state = t }) ≡ releaseRule s r words buffer
-    unfolding releaseRule bitRuling
-    buffer-released t y u = simp (← e, y, u)
+-- the rows of the place, and 30
 
--- ---- reading
+module _ (s : State) (r : Record) (mem out : List ℕ) (rows : Refusals) (i j : Judged) (e : ruled i ≡ first rows)
+    (t : ruled j ≡ (ruled i orElse first (outputRefusals (length out)))) where
+  all : ruled j ≡ first (rows ++ outputRefusals (length out))
+  all = judged-then rows (outputRefusals (length out)) i j e t
 
-module _ (mem : List ℕ) (a : Area) (place : ℕ) (out : List ℕ) where
-  pub read-wrong : (length out ≡ 64 → ⊥) → readOutcome (ReadAnswer.the-variants.Refused WrongOutput) out ≡ readOrNot mem a place out
-  unfolding readOrNot
-  read-wrong h = simp (ne-eqb _ _ h)
+  nothing : j ≡ Allowed → (first rows ≡ allowed) × (first (outputRefusals (length out)) ≡ allowed)
+  nothing y = rows-both rows (outputRefusals (length out)) (sym all ∙ ap ruled y)
 
-  pub read-done : (at n : ℕ) (h : RxRead) (last : List ℕ) → length out ≡ 64 → at ≡ placeIn a place → n ≡ dataWords a → h ≡ rxRead mem at n → last ≡ splice out 0 (readBytes mem at n)
-      → readOutcome (ReadAnswer.the-variants.Read h) last ≡ readOrNot mem a place out
-  unfolding readOrNot
-  read-done at n h last z e d p q = simp (eq-eqb _ _ z, p, q, e, d)
+  module _ (area : Area) (place : ℕ) where
+    pub read-refused : (n : Refusal) → j ≡ Refused n
+        → outcome (refuses (told n)) (world s r mem) out
+        ≡ call (world s r mem) out (rows ++ outputRefusals (length out)) (reads (world s r mem) area place out)
+    read-refused n y =
+        judged-refused (world s r mem) out (rows ++ outputRefusals (length out)) (reads (world s r mem) area place out)
+        j all n y
 
--- three rules, and a fourth
-then-fourth : (a b c d : Ruling ℕ) → first (a ∷ b ∷ c ∷ d ∷ []) ≡ first (first (a ∷ b ∷ c ∷ []) ∷ d ∷ [])
-then-fourth (refused n) b c d = refl
-then-fourth allowed (refused n) c d = refl
-then-fourth allowed allowed (refused n) d = refl
-then-fourth allowed allowed allowed d = refl
+    pub read-done : (a : Area) (h : RxRead) (last : List ℕ) → j ≡ Allowed → a ≡ area
+        → h ≡ rxRead mem (placeIn a place) (dataWords a)
+        → last ≡ splice out 0 (readBytes mem (placeIn a place) (dataWords a))
+        → outcome (answers h) (world s r mem) last
+        ≡ call (world s r mem) out (rows ++ outputRefusals (length out)) (reads (world s r mem) area place out)
+    unfolding reads
+    read-done a h last y q p l =
+        judged-done (world s r mem) out (rows ++ outputRefusals (length out)) (reads (world s r mem) area place out)
+        j all _ y
+        (ap₂ (λ (x : RxRead) (m : List ℕ). outcome (answers x) (world s r mem) m)
+        (p ∙ ap (λ (b : Area). rxRead mem (placeIn b place) (dataWords b)) q)
+        (l ∙ ap (λ (b : Area). splice out 0 (readBytes mem (placeIn b place) (dataWords b))) q))
 
--- the rules of a read: the three that were judged, and 30
-module _ (mem : List ℕ) (a : Area) (place : ℕ) (out : List ℕ) (x y z : Bool) (j : Judged) (e : ruled j ≡ first (refuseIf x 20 ∷ refuseIf y 23 ∷ refuseIf z 29 ∷ [])) where
-  abbrev rules : Ruling ℕ
-  rules = first (refuseIf x 20 ∷ refuseIf y 23 ∷ refuseIf z 29 ∷ refuseIf (wrongOutput out) 30 ∷ [])
+module _ (s : State) (r : Record) (mem out : List ℕ) (i j : Judged)
+    (t : ruled j ≡ (ruled i orElse first (outputRefusals (length out)))) (y : j ≡ Allowed) where
+  pub fifo-can : (fifo place : ℕ) (a : Area) → ruled i ≡ first (fifoRefusals (world s r mem) fifo place)
+      → a ≡ fifoArea (s .regs) fifo → CanRead mem a place out
+  fifo-can fifo place a e q =
+      let o = nothing s r mem out (fifoRefusals (world s r mem) fifo place) i j e t y in
+      let element = fifo-open (world s r mem) fifo place (o .0) .element in
+      rw q (record { element = element; output = output-fits (length out) (o .1) })
 
-  judged : (i : Judged) → j ≡ i → rules ≡ first (ruled i ∷ refuseIf (wrongOutput out) 30 ∷ [])
-  judged i w =
-      then-fourth (refuseIf x 20) (refuseIf y 23) (refuseIf z 29) (refuseIf (wrongOutput out) 30)
-      ∙ ap (λ (v : Ruling ℕ). first (v ∷ refuseIf (wrongOutput out) 30 ∷ [])) (sym e ∙ ap ruled w)
+  module _ (buffer : ℕ) (e : ruled i ≡ first (bufferRefusals (world s r mem) buffer)) where
+    rest : (first (bufferRefusals (world s r mem) buffer) ≡ allowed) × (first (outputRefusals (length out)) ≡ allowed)
+    rest = nothing s r mem out (bufferRefusals (world s r mem) buffer) i j e t y
 
-  read-refused : (n : Refusal) → j ≡ Refused n → readOutcome (ReadAnswer.the-variants.Refused n) out ≡ settle rules (readIn mem a place out) (unread out)
-  read-refused n w = sym (ap (λ (v : Ruling ℕ). settle v (readIn mem a place out) (unread out)) (judged (Refused n) w))
+    pub buffer-most : buffers (s .regs) ≤ 64
+    buffer-most = buffer-open (world s r mem) buffer (rest .0) .few
 
-  read-allowed : j ≡ Allowed → readOrNot mem a place out ≡ settle rules (readIn mem a place out) (unread out)
-  unfolding readOrNot
-  read-allowed w = sym (ap (λ (v : Ruling ℕ). settle v (readIn mem a place out) (unread out)) (judged Allowed w))
-
-module _ (s : State) (r : Record) (mem : List ℕ) (j : Judged) (out : List ℕ) where
-  module _ (fifo place : ℕ) (e : ruled j ≡ fitThen s r (length mem) (placeRuling (fifoRing s fifo) fifo (fifoSize (s .regs) fifo) place)) where
-    pub fifo-refused : (n : Refusal) → j ≡ Refused n → readOutcome (ReadAnswer.the-variants.Refused n) out ≡ readFifoRule s r mem fifo place out
-    unfolding readFifoRule placeRuling
-    fifo-refused n y = read-refused mem (fifoArea (s .regs) fifo) place out (unfit s r (length mem)) (noPlace s fifo place) (placeFree s fifo place) j e n y
-
-    pub fifo-read : (a : Area) (answer : ReadAnswer) (last : List ℕ) → j ≡ Allowed → a ≡ fifoArea (s .regs) fifo → readOutcome answer last ≡ readOrNot mem a place out
-        → readOutcome answer last ≡ readFifoRule s r mem fifo place out
-    unfolding readFifoRule placeRuling
-    fifo-read a answer last y q h =
-        h ∙ ap (λ (b : Area). readOrNot mem b place out) q
-        ∙ read-allowed mem (fifoArea (s .regs) fifo) place out (unfit s r (length mem)) (noPlace s fifo place) (placeFree s fifo place) j e y
-
-  module _ (buffer : ℕ) (e : ruled j ≡ fitThen s r (length mem) (bitRuling (s .newdata) (s .regs .buffers) buffer)) where
-    pub buffer-refused : (n : Refusal) → j ≡ Refused n → readOutcome (ReadAnswer.the-variants.Refused n) out ≡ readBufferRule s r mem buffer out
-    unfolding readBufferRule bitRuling
-    buffer-refused n y = read-refused mem (bufferArea (s .regs)) buffer out (unfit s r (length mem)) (noBuffer s buffer) (bufferFree s buffer) j e n y
-
-    pub buffer-read : (a : Area) (answer : ReadAnswer) (last : List ℕ) → j ≡ Allowed → a ≡ bufferArea (s .regs) → readOutcome answer last ≡ readOrNot mem a buffer out
-        → readOutcome answer last ≡ readBufferRule s r mem buffer out
-    unfolding readBufferRule bitRuling
-    buffer-read a answer last y q h =
-        h ∙ ap (λ (b : Area). readOrNot mem b buffer out) q
-        ∙ read-allowed mem (bufferArea (s .regs)) buffer out (unfit s r (length mem)) (noBuffer s buffer) (bufferFree s buffer) j e y
+    pub buffer-can : (a : Area) → a ≡ bufferArea (s .regs) → CanRead mem a buffer out
+    buffer-can a q =
+        let element = buffer-open (world s r mem) buffer (rest .0) .element in
+        rw q (record { element = element; output = output-fits (length out) (rest .1) })

@@ -1,117 +1,160 @@
--- The cases of what is judged, one law each, and what is known where a call is allowed.
+-- The cases of what is judged, one law each, and what is known where nothing is against a call.
 -- Assumes nothing.
 use Prim.Native.Nat.{ℕ, _≤_, _<_}
-use mathlib.Core.Path.{_≡_, sym, ap, ap₂, _∙_, subst}
-use mathlib.Core.Bool.{Bool, true, false, _||_}
-use borrow.Author.Tests.{le-leb, lt-leb, leb-false, not-false}
+use mathlib.Core.Path.{_≡_, sym, ap, ap₂, _∙_}
+use mathlib.Core.Bool.{Bool, true, false}
+use mathlib.Core.List.{List}
+use borrow.Author.Tests.{lt-ltb, le-ltb, le-leb, lt-leb, ltb-false, leb-false, not-false}
 use native.Mathlib.Omega.{arith}
 use lib.Dec.{ltb, leb}
+use lib.ListN.{length}
 use Rattle.words.specs.Bits.{isSet}
-use Rattle.words.specs.Fields.{bits}
+use Rattle.words.specs.Rules.{allowed, first}
+use Rattle.words.proofs.Choices.{or-neither}
 use Rattle.words.proofs.Rulings.{all-three}
 use Rattle.ring.specs.Rings.{Fit, held}
 use Rattle.ring.specs.declared.Ring.{Ring}
 use Rattle.ring.proofs.Holding.{held-inside}
+use Rattle.places.specs.Areas.{HasPlace}
+use Rattle.registers.specs.Fields.{fifoWord, fifoSize, buffers}
+use Rattle.registers.specs.Kinds.{field, rxfcCount}
 use Rattle.registers.specs.declared.kinds.Rxfc.{Rxfc}
+use Rattle.layout.specs.Verdict.{plain}
+use Rattle.areas.specs.Areas.{fifoArea, bufferArea}
+use Rattle.areas.proofs.Rooms.{fifo-roomy, buffer-roomy}
 use Rattle.engine.specs.Answers.{ruled}
-use Rattle.engine.specs.Areas.{fifoWord, fifoSize, fifoArea, bufferArea, HasPlace}
-use Rattle.engine.specs.Fitness.{unfit, fitThen}
+use Rattle.engine.specs.Calls.{World, world, isUnfit}
+use Rattle.engine.specs.Fitness.{unfit}
+use Rattle.engine.specs.Holding.{placeRefusals}
+use Rattle.engine.specs.Needs.{HoldsPlace}
 use Rattle.engine.specs.States.{fifoRing}
-use Rattle.engine.specs.declared.areas.Area.{Area}
 use Rattle.engine.specs.declared.refusals.Judged.{Judged}
 use Rattle.engine.specs.declared.refusals.Judged.the-variants.{Allowed, Refused}
-use Rattle.engine.specs.declared.refusals.Refusal.the-variants.{NoSuch, NotHeld}
+use Rattle.engine.specs.declared.refusals.Refusal.the-variants.{Unfit, NoSuch, NotHeld}
 use Rattle.engine.specs.declared.state.State.{State}
 use Rattle.engine.specs.declared.state.Record.{Record}
-use Rattle.engine.proofs.Judgements.{fit-rest}
-use Rattle.engine.proofs.Rooms.{fifo-roomy, buffer-roomy}
 use Rattle.engine.proofs.Sounds.{sound-of, ring-fits}
-use Rattle.taking.specs.Judging.{placeRuling, bitRuling}
-use Rattle.taking.specs.Places.{noPlace, placeFree, noBuffer, bufferFree}
-use Rattle.taking.specs.Releasing.{HoldsPlace}
+use Rattle.taking.specs.Places.{noPlace, placeFree, noRxBuffer, bufferFree, fifoRefusals, bufferRefusals}
 
--- ---- of plain numbers
+-- ---- what the code finds
 
-module _ (q : Ring) (fifo size place : ℕ) where
-  pub place-none : (ltb 1 fifo || leb size place) ≡ true → ruled (Refused NoSuch) ≡ placeRuling q fifo size place
-  unfolding placeRuling
-  place-none y = simp (y)
+module _ (s : State) (r : Record) (mem : List ℕ) (b : Bool) (e : b ≡ unfit s r (length mem)) where
+  module _ (fifo place : ℕ) where
+    abbrev Finds : Judged → Type 0
+    Finds j = ruled j ≡ first (fifoRefusals (world s r mem) fifo place)
 
-  module _ (n : (ltb 1 fifo || leb size place) ≡ false) (b : Bool) (e : b ≡ held q size place) where
-    pub place-held : b ≡ true → ruled Allowed ≡ placeRuling q fifo size place
-    unfolding placeRuling
-    place-held y = simp (n, ← e, y)
+    pub fifo-unfit : b ≡ true → Finds (Refused Unfit)
+    unfolding fifoRefusals
+    fifo-unfit y = simp (← e, y)
 
-    pub place-free : b ≡ false → ruled (Refused NotHeld) ≡ placeRuling q fifo size place
-    unfolding placeRuling
-    place-free y = simp (n, ← e, y)
+    module _ (z : b ≡ false) where
+      pub fifo-none : 1 < fifo → Finds (Refused NoSuch)
+      unfolding fifoRefusals
+      fifo-none h = simp (← e, z, lt-ltb _ _ h)
 
-pub ruleset places = (place-none, place-held, place-free)
+      module _ (q : Ring) (w : Rxfc) (n : ℕ) (a : q ≡ fifoRing s fifo) (c : w .word ≡ fifoWord (s .regs) fifo)
+          (d : n ≡ field rxfcCount (w .word)) where
+        size-is : n ≡ fifoSize (s .regs) fifo
+        size-is = d ∙ ap (field rxfcCount) c
 
-module _ (newdata count buffer : ℕ) where
-  pub bit-none : count ≤ buffer → ruled (Refused NoSuch) ≡ bitRuling newdata count buffer
-  unfolding bitRuling
-  bit-none h = simp (le-leb _ _ h)
+        pub ring-tested : Fit q n
+        ring-tested = rw (a, size-is) (ring-fits s (length mem) fifo (sound-of s r (length mem) (sym e ∙ z)))
 
-  module _ (h : buffer < count) (b : Bool) (e : b ≡ isSet newdata buffer) where
-    pub bit-set : b ≡ true → ruled Allowed ≡ bitRuling newdata count buffer
-    unfolding bitRuling
-    bit-set y = simp (lt-leb _ _ h, ← e, y)
+        pub fifo-rest : fifo ≤ 1 → (j : Judged) → ruled j ≡ first (placeRefusals q n place) → Finds j
+        unfolding fifoRefusals placeRefusals
+        fifo-rest h j t =
+            t
+            ∙ ap₂ (λ (x : Ring) (k : ℕ). first (placeRefusals x k place)) a size-is
+            ∙ sym (simp (← e, z, le-ltb _ _ h))
 
-    pub bit-clear : b ≡ false → ruled (Refused NotHeld) ≡ bitRuling newdata count buffer
-    unfolding bitRuling
-    bit-clear y = simp (lt-leb _ _ h, ← e, y)
+  module _ (buffer : ℕ) where
+    abbrev FindsIn : Judged → Type 0
+    FindsIn j = ruled j ≡ first (bufferRefusals (world s r mem) buffer)
 
-pub ruleset buffers = (bit-none, bit-set, bit-clear)
+    pub buffer-unfit : b ≡ true → FindsIn (Refused Unfit)
+    unfolding bufferRefusals
+    buffer-unfit y = simp (← e, y)
 
--- ---- with 20 before it
+    module _ (z : b ≡ false) where
+      pub bit-inside : buffer < buffers (s .regs) → buffer < 64
+      bit-inside h = omega (arith, sound-of s r (length mem) (sym e ∙ z) .legal .counted .buffers)
 
-module _ (s : State) (r : Record) (words : ℕ) (b : Bool) (e : b ≡ unfit s r words) (z : b ≡ false) where
-  module _ (fifo : ℕ) (q : Ring) (w : Rxfc) (n : ℕ) (a : q ≡ fifoRing s fifo) (c : w .word ≡ fifoWord (s .regs) fifo) (d : n ≡ bits 22 16 (w .word)) where
-    pub ring-tested : Fit q n
-    ring-tested = rw (a, d, c) (ring-fits s words fifo (sound-of s r words (sym e ∙ z)))
+      pub buffer-none : buffers (s .regs) ≤ buffer → FindsIn (Refused NoSuch)
+      unfolding bufferRefusals
+      buffer-none h = simp (← e, z, le-leb _ _ h)
 
-    pub fifo-rest : (place : ℕ) (j : Judged) → ruled j ≡ placeRuling q fifo n place → ruled j ≡ fitThen s r words (placeRuling (fifoRing s fifo) fifo (fifoSize (s .regs) fifo) place)
-    fifo-rest place j t =
-        fit-rest s r words b e (placeRuling (fifoRing s fifo) fifo (fifoSize (s .regs) fifo) place) j z
-        (t ∙ ap₂ (λ (x : Ring) (k : ℕ). placeRuling x fifo k place) a (d ∙ ap (bits 22 16) c))
+      module _ (h : buffer < buffers (s .regs)) (f : Bool) (t : f ≡ isSet (s .newdata) buffer) where
+        pub buffer-held : f ≡ true → FindsIn Allowed
+        unfolding bufferRefusals
+        buffer-held y = simp (← e, z, lt-leb _ _ h, ← t, y)
 
-  pub few-buffers : s .regs .buffers ≤ 64
-  few-buffers = sound-of s r words (sym e ∙ z) .legal .counted .buffers
+        pub buffer-free : f ≡ false → FindsIn (Refused NotHeld)
+        unfolding bufferRefusals
+        buffer-free y = simp (← e, z, lt-leb _ _ h, ← t, y)
 
--- ---- where a call is allowed
+pub ruleset fifos = (fifo-unfit, fifo-none, fifo-rest)
 
-module _ (s : State) (r : Record) (words : ℕ) (j : Judged) (y : j ≡ Allowed) where
-  -- calls 3 and 4
-  module _ (fifo place : ℕ) (e : ruled j ≡ fitThen s r words (placeRuling (fifoRing s fifo) fifo (fifoSize (s .regs) fifo) place)) where
-    fifo-parts : (unfit s r words ≡ false) × (noPlace s fifo place ≡ false) × (placeFree s fifo place ≡ false)
-    unfolding placeRuling
-    fifo-parts = all-three (unfit s r words) (noPlace s fifo place) (placeFree s fifo place) 20 23 29 (sym e ∙ ap ruled y)
+pub ruleset rx-buffers = (buffer-unfit, buffer-none, buffer-held, buffer-free)
 
-    pub holds-place : HoldsPlace s fifo place
-    holds-place = record {
-      ring = ring-fits s words fifo (sound-of s r words (fifo-parts .0));
-      holds = not-false (held (fifoRing s fifo) (fifoSize (s .regs) fifo) place) (fifo-parts .2);
+-- ---- what is known where nothing is against a call
+
+pub record FifoOpen (w : World) (fifo place : ℕ) : Type 0 where
+  pub fit : isUnfit w ≡ false
+  pub number : fifo ≤ 1
+  pub holds : HoldsPlace (fifoRing (w .state) fifo) (fifoSize (w .state .regs) fifo) place
+  pub element : HasPlace (fifoArea (w .state .regs) fifo) place (length (w .memory))
+
+pub fifo-open : (w : World) (fifo place : ℕ) → first (fifoRefusals w fifo place) ≡ allowed → FifoOpen w fifo place
+unfolding fifoRefusals
+fifo-open w fifo place e =
+    let p =
+    all-three (isUnfit w) (noPlace (w .state) fifo place) (placeFree (w .state) fifo place) (plain 20) (plain 23)
+    (plain 29) e in
+    let n = fifoSize (w .state .regs) fifo in
+    let words = length (w .memory) in
+    let holds = not-false (held (fifoRing (w .state) fifo) n place) (p .2) in
+    let sound = sound-of (w .state) (w .recorded) words (p .0) in
+    record {
+      fit = p .0;
+      number = ltb-false 1 fifo (or-neither (ltb 1 fifo) (leb n place) (p .1) .0);
+      holds = record { ring = ring-fits (w .state) words fifo sound; holds = holds };
+      element = record {
+        room = fifo-roomy (w .state .regs) words (sound .legal) fifo;
+        within = held-inside (fifoRing (w .state) fifo) n place holds;
+      };
     }
 
-    pub fifo-place : (a : Area) → a ≡ fifoArea (s .regs) fifo → HasPlace a place words
-    fifo-place a q =
-        subst (λ (x : Area). HasPlace x place words) (sym q)
-        (record { room = fifo-roomy (s .regs) words (sound-of s r words (fifo-parts .0) .legal) fifo; within = held-inside (fifoRing s fifo) (fifoSize (s .regs) fifo) place (holds-place .holds) })
+pub record BufferOpen (w : World) (buffer : ℕ) : Type 0 where
+  pub fit : isUnfit w ≡ false
+  pub few : buffers (w .state .regs) ≤ 64
+  pub number : buffer < buffers (w .state .regs)
+  pub full : isSet (w .state .newdata) buffer ≡ true
+  pub element : HasPlace (bufferArea (w .state .regs)) buffer (length (w .memory))
 
-  -- calls 5 and 6
-  module _ (buffer : ℕ) (e : ruled j ≡ fitThen s r words (bitRuling (s .newdata) (s .regs .buffers) buffer)) where
-    buffer-parts : (unfit s r words ≡ false) × (noBuffer s buffer ≡ false) × (bufferFree s buffer ≡ false)
-    unfolding bitRuling
-    buffer-parts = all-three (unfit s r words) (noBuffer s buffer) (bufferFree s buffer) 20 23 29 (sym e ∙ ap ruled y)
+pub buffer-open : (w : World) (buffer : ℕ) → first (bufferRefusals w buffer) ≡ allowed → BufferOpen w buffer
+unfolding bufferRefusals
+buffer-open w buffer e =
+    let p =
+    all-three (isUnfit w) (noRxBuffer (w .state) buffer) (bufferFree (w .state) buffer) (plain 20) (plain 23)
+    (plain 29) e in
+    let words = length (w .memory) in
+    let sound = sound-of (w .state) (w .recorded) words (p .0) in
+    let number = leb-false (buffers (w .state .regs)) buffer (p .1) in
+    record {
+      fit = p .0;
+      few = sound .legal .counted .buffers;
+      number = number;
+      full = not-false (isSet (w .state .newdata) buffer) (p .2);
+      element = record { room = buffer-roomy (w .state .regs) words (sound .legal); within = number };
+    }
 
-    pub buffer-most : s .regs .buffers ≤ 64
-    buffer-most = sound-of s r words (buffer-parts .0) .legal .counted .buffers
+-- ---- the same, of what was judged
 
-    pub buffer-small : buffer < 64
-    buffer-small = omega (arith, buffer-most, leb-false (s .regs .buffers) buffer (buffer-parts .1))
+module _ (s : State) (r : Record) (mem : List ℕ) (j : Judged) (y : j ≡ Allowed) where
+  pub holds-place : (fifo place : ℕ) → ruled j ≡ first (fifoRefusals (world s r mem) fifo place)
+      → HoldsPlace (fifoRing s fifo) (fifoSize (s .regs) fifo) place
+  holds-place fifo place e = fifo-open (world s r mem) fifo place (sym e ∙ ap ruled y) .holds
 
-    pub buffer-place : (a : Area) → a ≡ bufferArea (s .regs) → HasPlace a buffer words
-    buffer-place a q =
-        subst (λ (x : Area). HasPlace x buffer words) (sym q)
-        (record { room = buffer-roomy (s .regs) words (sound-of s r words (buffer-parts .0) .legal); within = leb-false (s .regs .buffers) buffer (buffer-parts .1) })
+  pub buffer-small : (buffer : ℕ) → ruled j ≡ first (bufferRefusals (world s r mem) buffer) → buffer < 64
+  buffer-small buffer e =
+      let o = buffer-open (world s r mem) buffer (sym e ∙ ap ruled y) in omega (arith, o .few, o .number)

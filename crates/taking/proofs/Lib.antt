@@ -1,4 +1,5 @@
 pub mod Judgements
 pub mod Calls
-pub mod Outcomes
-pub mod Acknowledged
+pub mod Answers
+pub mod Fits
+pub mod OwnElement

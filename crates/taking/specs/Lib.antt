@@ -1,5 +1,5 @@
 pub mod Places
-pub mod Judging
 pub mod Reading
 pub mod Releasing
+pub mod Needs
 pub mod Promises

@@ -1,18 +1,38 @@
--- What is promised of an acknowledge: statements only. Promises over calls 2 to 6 stand in receiving.
-use Prim.Native.Nat.{ℕ}
+-- What is promised of calls 3 to 6: statements only.
+use Prim.Native.Nat.{ℕ, _<_}
 use mathlib.Core.Path.{_≡_}
-use mathlib.Core.Bool.{_&&_}
-use lib.Dec.{ltb}
-use Rattle.ring.specs.Rings.{age, held}
-use Rattle.engine.specs.Answers.{done}
-use Rattle.engine.specs.Areas.{fifoSize}
+use mathlib.Core.List.{List}
+use lib.ListN.{length}
+use Rattle.words.specs.Ranges.{SameIn}
+use Rattle.shape.specs.Calls.{done}
+use Rattle.places.specs.Areas.{placeRange}
+use Rattle.registers.specs.Fields.{fifoSize}
+use Rattle.areas.specs.Areas.{fifoArea, bufferArea}
+use Rattle.engine.specs.Calls.{World, withMemory, inMemory}
+use Rattle.engine.specs.Holding.{YoungerStay}
 use Rattle.engine.specs.States.{fifoRing}
-use Rattle.engine.specs.declared.state.State.{State}
-use Rattle.engine.specs.declared.state.Record.{Record}
-use Rattle.taking.specs.Releasing.{acknowledgeRule}
+use Rattle.taking.specs.Reading.{readFifo, readBuffer}
+use Rattle.taking.specs.Releasing.{acknowledgeFifo, releaseBuffer}
 
 -- an acknowledge releases all held up to and including the place, and no other
 abbrev pub AcknowledgeReleases : Type 0
 AcknowledgeReleases =
-    (s : State) (r : Record) (words fifo place : ℕ) → let o = acknowledgeRule s r words fifo place in let n = fifoSize (s .regs) fifo in o .says ≡ done
-    → (q : ℕ) → held (fifoRing (o .state) fifo) n q ≡ (held (fifoRing s fifo) n q && ltb (age (fifoRing s fifo) n place) (age (fifoRing s fifo) n q))
+    (w : World) (fifo place : ℕ) → let o = acknowledgeFifo w fifo place in let s = w .state in o .says ≡ done
+    → YoungerStay (fifoRing s fifo) (fifoSize (s .regs) fifo) place (fifoRing (o .world .state) fifo)
+
+-- a read looks at the words of its own element alone, where there is one, and the other two calls at none:
+-- with another memory, as long, that has the same words there, each does the same
+pub record OwnElementAlone (w : World) (other : List ℕ) : Type 0 where
+  pub fifoRead : (fifo place : ℕ) (out : List ℕ) → let a = fifoArea (w .state .regs) fifo in
+      (place < a .count → SameIn (placeRange a place) (w .memory) other)
+      → readFifo (withMemory w other) fifo place out ≡ inMemory other (readFifo w fifo place out)
+  pub acknowledge : (fifo place : ℕ)
+      → acknowledgeFifo (withMemory w other) fifo place ≡ inMemory other (acknowledgeFifo w fifo place)
+  pub bufferRead : (buffer : ℕ) (out : List ℕ) → let a = bufferArea (w .state .regs) in
+      (buffer < a .count → SameIn (placeRange a buffer) (w .memory) other)
+      → readBuffer (withMemory w other) buffer out ≡ inMemory other (readBuffer w buffer out)
+  pub release : (buffer : ℕ)
+      → releaseBuffer (withMemory w other) buffer ≡ inMemory other (releaseBuffer w buffer)
+
+abbrev pub CallsReadOwnElement : Type 0
+CallsReadOwnElement = (w : World) (other : List ℕ) → length other ≡ length (w .memory) → OwnElementAlone w other

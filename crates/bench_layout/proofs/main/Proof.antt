@@ -1,3 +1,4 @@
+-- What is lent on is never longer than its array: the bytes that were read, and the text's first len.
 use Rattle.bench_layout.proofs.Lent.{lent-within, lent-count}
 use borrow.Author.Needs.{needs}
 use Rattle.bench_layout.proofs.main.Statement.{statement}

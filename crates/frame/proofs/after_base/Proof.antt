@@ -1,3 +1,4 @@
+-- A law for 29 bits and one for 11; the sums fit, since a remainder is small.
 use Rattle.frame.proofs.Ranks.{afters}
 use borrow.Author.Needs.{needs}
 use Rattle.frame.proofs.after_base.Statement.{statement}

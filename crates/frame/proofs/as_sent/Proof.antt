@@ -1,3 +1,4 @@
+-- The code builds the definition's record, so both compute to the same.
 use Rattle.frame.specs.Sent.{asSent}
 use mathlib.Core.Path.{refl}
 use Rattle.frame.proofs.as_sent.Statement.{statement}

@@ -1,3 +1,4 @@
+-- The base identifier of either kind has its own case law.
 use Rattle.frame.proofs.Ranks.{bases}
 use borrow.Author.Needs.{needs}
 use Rattle.frame.proofs.base_id.Statement.{statement}

@@ -1,3 +1,4 @@
+-- One law for each return: remote, a DLC that is none, FD, and classic below and from 8.
 use Rattle.frame.proofs.Lengths.{lengths}
 use borrow.Author.Needs.{needs}
 use Rattle.frame.proofs.data_length.Statement.{statement}

@@ -1,3 +1,4 @@
+-- The code has the definition's six grounds, the last with what `data_length` gives.
 use Rattle.frame.specs.Malformed.{malformed}
 use borrow.Author.Needs.{needs}
 use Rattle.frame.proofs.is_malformed.Statement.{statement}

@@ -1,3 +1,4 @@
+-- The two parts are the callees' and bounded, so that their sum fits; one law puts them together.
 use Rattle.frame.proofs.Ranks.{rank-parts}
 use borrow.Author.Needs.{needs}
 use Rattle.frame.proofs.rank.Statement.{statement}

@@ -1,3 +1,4 @@
+-- Kept in the loop: the text is the head and the first i rows, and no row is longer than 63.
 use Prim.Native.Nat.{_≤_, _-_, _+_, _*_}
 use mathlib.Core.Path.{_≡_}
 use mathlib.Core.List.{_++_}
@@ -10,7 +11,8 @@ use Rattle.printout.proofs.ok_text.Statement.{statement}
 use Rattle.printout.proofs.ok_text.Tie as tie
 
 abbrev Inv-loop : tie.InvT-loop
-Inv-loop sections t₀ i₀ t i = (length sections ≡ 7) × (i ≤ 7) × (content t ≡ content t₀ ++ rows sections i) × (t .len ≤ 10 + 63 * i)
+Inv-loop sections t₀ i₀ t i =
+    (length sections ≡ 7) × (i ≤ 7) × (content t ≡ content t₀ ++ rows sections i) × (t .len ≤ 10 + 63 * i)
 
 abbrev μ-loop : tie.MeasureT-loop
 μ-loop sections t₀ i₀ t i = 7 - i

@@ -1,3 +1,4 @@
+-- Either the input is not read, or what is printed is what a start says of its registers.
 use borrow.Author.Tests.{not-true, not-false}
 use Rattle.printout.proofs.Told.{not-read, is-read, read-told}
 use borrow.Author.Needs.{needs}

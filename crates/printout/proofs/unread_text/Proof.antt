@@ -1,3 +1,4 @@
+-- The text was empty, so it is what was pushed.
 use Rattle.printout.proofs.Told.{first-pushed}
 use borrow.Author.Needs.{needs}
 use Rattle.printout.proofs.unread_text.Statement.{statement}

@@ -1,3 +1,4 @@
+-- The code's table is the definition's, and its entries are from 4 to 18.
 use mathlib.Core.Path.{refl}
 use Rattle.frame.proofs.SizeLaws.{words-least, words-most}
 use borrow.Author.Needs.{needs}

@@ -1,3 +1,4 @@
+-- One law for each return: a number is given where the tests before it have passed.
 use borrow.Author.Tests.{not-true, not-false}
 use Rattle.layout.proofs.Says.{few-buffers, says-10, says-11, says-12, says-13, says-14, says-15}
 use borrow.Author.Needs.{needs}

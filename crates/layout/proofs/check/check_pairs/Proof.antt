@@ -1,3 +1,4 @@
+-- Kept in both loops: the search that is left, of pairs from i on and of partners from j on, is the whole one.
 use Prim.Native.Nat.{_≤_, _-_}
 use mathlib.Core.Path.{_≡_, refl}
 use lib.ListN.{length}
@@ -16,7 +17,8 @@ abbrev μ-loop : tie.MeasureT-loop
 μ-loop s found₀ i a j₀ found j = 7 - j
 
 abbrev Inv-pairs : tie.InvT-pairs
-Inv-pairs s found₀ i₀ found i = (length s ≡ 7) × (i ≤ 7) × (found ≡ Accepted) × (leastFrom (hasPartner s) 0 7 ≡ leastFrom (hasPartner s) i (7 - i))
+Inv-pairs s found₀ i₀ found i =
+    (length s ≡ 7) × (i ≤ 7) × (found ≡ Accepted) × (leastFrom (hasPartner s) 0 7 ≡ leastFrom (hasPartner s) i (7 - i))
 
 abbrev μ-pairs : tie.MeasureT-pairs
 μ-pairs s found₀ i₀ found i = 7 - i

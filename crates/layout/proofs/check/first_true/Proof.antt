@@ -1,3 +1,4 @@
+-- The search that is left from flag i on is the whole search.
 use Prim.Native.Nat.{_≤_, _-_}
 use mathlib.Core.Path.{_≡_, refl}
 use mathlib.Core.Bool.{false}
@@ -9,7 +10,9 @@ use Rattle.layout.proofs.check.first_true.Statement.{statement}
 use Rattle.layout.proofs.check.first_true.Tie as tie
 
 abbrev Inv-loop : tie.InvT-loop
-Inv-loop flags i₀ i = (length flags ≡ 7) × (i ≤ 7) × (leastFrom (λ k. getD flags k false) 0 7 ≡ leastFrom (λ k. getD flags k false) i (7 - i))
+Inv-loop flags i₀ i =
+    (length flags ≡ 7) × (i ≤ 7)
+    × (leastFrom (λ k. getD flags k false) 0 7 ≡ leastFrom (λ k. getD flags k false) i (7 - i))
 
 abbrev μ-loop : tie.MeasureT-loop
 μ-loop flags i₀ i = 7 - i

@@ -1,3 +1,4 @@
+-- An accepted layout is legal, so that its sections can be laid out; of a refused one none is reported.
 use Rattle.layout.proofs.Judged.{accepted-buffers, reports-sections, reports-none}
 use borrow.Author.Needs.{needs}
 use Rattle.layout.proofs.check.judge.Statement.{statement}

@@ -1,3 +1,4 @@
+-- The later start and the earlier end are what the callees give.
 use borrow.Author.Needs.{needs}
 use Rattle.layout.proofs.check.share.Statement.{statement}
 use Rattle.layout.proofs.check.share.Tie as tie

@@ -1,3 +1,4 @@
+-- Start and count are what the accessors of the FIFO's register give, and its code gives the size.
 use borrow.Author.Needs.{needs}
 use Rattle.layout.proofs.sections.fifo.Statement.{statement}
 use Rattle.layout.proofs.sections.fifo.Tie as tie

@@ -1,3 +1,4 @@
+-- Each count is what its register's accessor gives.
 use borrow.Author.Needs.{needs}
 use Rattle.layout.proofs.sections.over_most.Statement.{statement}
 use Rattle.layout.proofs.sections.over_most.Tie as tie

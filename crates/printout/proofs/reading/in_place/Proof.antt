@@ -1,3 +1,4 @@
+-- A law for the place of a newline and one for that of a digit.
 use Rattle.printout.proofs.Lines.{newline-there, digit-there}
 use borrow.Author.Needs.{needs}
 use Rattle.printout.proofs.reading.in_place.Statement.{statement}

@@ -1,3 +1,4 @@
+-- The search for a byte out of place that is left from k on is the whole search.
 use Prim.Native.Nat.{_≤_, _-_}
 use mathlib.Core.Path.{_≡_, refl}
 use borrow.Author.Tests.{not-true, not-false}

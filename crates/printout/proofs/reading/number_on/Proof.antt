@@ -1,3 +1,4 @@
+-- Digit by digit; k digits make a number below 16 ^ k, so that eight of them fit.
 use Prim.Native.Nat.{_≤_, _-_}
 use mathlib.Core.Path.{_≡_}
 use lib.ListN.{length}

@@ -1,3 +1,4 @@
+-- Each word is the number on its line, as `number_on` gives it.
 use borrow.Author.Needs.{needs}
 use Rattle.printout.proofs.reading.registers.Statement.{statement}
 use Rattle.printout.proofs.reading.registers.Tie as tie

@@ -1,3 +1,4 @@
+-- One variant accepts, and the meaning of each of the other six is a refusal.
 use mathlib.Core.Path.{_≡_, refl}
 use mathlib.Core.Bool.{false}
 use mathlib.Core.List.{[], _∷_}

@@ -1,3 +1,4 @@
+-- The number falls to its tenth at each call; its digits are those of the tenth and one more.
 use Rattle.printout.proofs.Pushed.{digit-pushed, digit-counted, digits-pushed, digits-counted, digits-few}
 use Rattle.printout.proofs.Pushed.{digits-leave-one}
 use borrow.Author.Needs.{needs}

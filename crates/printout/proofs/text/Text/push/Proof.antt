@@ -1,3 +1,4 @@
+-- The byte is put behind the first len bytes, which stay.
 use mathlib.Core.Path.{refl}
 use Rattle.printout.proofs.Pushed.{byte-pushed}
 use borrow.Author.Needs.{needs}

@@ -1,3 +1,4 @@
+-- Kept in the loop: the text is what it was and the first i bytes.
 use Prim.Native.Nat.{_≤_, _-_, _+_}
 use mathlib.Core.Path.{_≡_}
 use mathlib.Core.List.{_++_}

@@ -1,3 +1,4 @@
+-- Six pushes one after another, put together by one law; no number has over 20 digits.
 use Rattle.printout.proofs.Pushed.{row-pushed}
 use borrow.Author.Needs.{needs}
 use Rattle.printout.proofs.text.Text.push_row.Statement.{statement}

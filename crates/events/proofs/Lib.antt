@@ -1,0 +1,5 @@
+pub mod Judgements
+pub mod Calls
+pub mod Answers
+pub mod Fits
+pub mod OwnEvent
