@@ -7,13 +7,19 @@ use native.Mathlib.Nat.{zero-add}
 use native.Mathlib.Omega.{arith}
 use lib.ListN.{length, set, getD, drop, length-append, drop-of-length-le}
 use lib.Seq.{drop-cons}
+use Rattle.words.specs.Choice.{pick}
 use Rattle.words.specs.Runs.{splice}
 use Rattle.words.proofs.Runs.{splice-none, splice-snoc, splice-cons, splice-length}
 use Rattle.shape.specs.Calls.{done}
+use Rattle.element.specs.declared.RxRead.{RxRead}
+use Rattle.element.specs.declared.EventHeader.{EventHeader}
 use Rattle.layout.specs.Sections.{none}
 use Rattle.layout.specs.declared.sections.Section.{Section}
 use Rattle.starting.specs.Starting.{flat}
-use Rattle.c_answers.specs.Answers.{startWords}
+use Rattle.choosing.specs.declared.asking.Chosen.{Chosen}
+use Rattle.c_words.specs.Words.{yesNo}
+use Rattle.c_words.specs.Frames.{packFrame}
+use Rattle.c_answers.specs.Answers.{startWords, readWords, chosenWords, eventWords}
 
 -- words put after others that were put in front
 splice-more : (l xs ys : List ℕ) → length xs + length ys ≤ length l
@@ -35,6 +41,40 @@ put-more : (l m k xs ys : List ℕ) (at : ℕ) → m ≡ splice l 0 xs → k ≡
 put-more l m k xs ys at e f g h =
     f ∙ ap (λ (x : List ℕ). splice x at ys) e ∙ ap (λ (i : ℕ). splice (splice l 0 xs) i ys) (sym g)
     ∙ splice-more l xs ys (omega arith)
+
+-- ---- frames, and words beside them
+
+module _ (l m k ws : List ℕ) (room : length l ≡ 16) where
+  -- a frame, and three words more
+  module _ (e : m ≡ splice l 0 ws) where
+    pub read-told : (r : RxRead) (n : ℕ) → ws ≡ packFrame (r .header .frame)
+        → n ≡ pick (r .header .anmf) 0 (r .header .index + 1) → k ≡ splice m 7 (r .header .time ∷ n ∷ r .count ∷ [])
+        → k ≡ splice l 0 (readWords r)
+    unfolding readWords packFrame
+    read-told r n w x f =
+        put-more l m k (packFrame (r .header .frame)) (r .header .time ∷ pick (r .header .anmf) 0 (r .header .index + 1)
+        ∷ r .count ∷ []) 7
+        (e ∙ ap (splice l 0) w) (f ∙ ap (λ (y : ℕ). splice m 7 (r .header .time ∷ y ∷ r .count
+        ∷ [])) x) refl (omega arith)
+
+    pub event-told : (h : EventHeader) → ws ≡ packFrame (h .frame) → k ≡ splice m 7 (h .marker ∷ h .kind ∷ h .time ∷ [])
+        → k ≡ splice l 0 (eventWords h)
+    unfolding eventWords packFrame
+    event-told h w f =
+        put-more l m k (packFrame (h .frame)) (h .marker ∷ h .kind ∷ h .time ∷ []) 7 (e
+        ∙ ap (splice l 0) w) f refl (omega arith)
+
+  -- three words, a frame, and one word more
+  pub chosen-told : (c : Chosen) (n : ℕ) (j : List ℕ) → ws ≡ packFrame (c .frame) → n ≡ yesNo (c .wish)
+      → j ≡ splice l 0 (c .buffer ∷ c .marker ∷ n ∷ []) → m ≡ splice j 3 ws → k ≡ splice m 10 (c .count ∷ [])
+      → k ≡ splice l 0 (chosenWords c)
+  unfolding chosenWords packFrame
+  chosen-told c n j w x d e f =
+      let head = c .buffer ∷ c .marker ∷ yesNo (c .wish) ∷ [] in
+      put-more l m k (head ++ packFrame (c .frame)) (c .count ∷ []) 10
+      (put-more l j m head (packFrame (c .frame)) 3 (d
+      ∙ ap (λ (y : ℕ). splice l 0 (c .buffer ∷ c .marker ∷ y ∷ [])) x) (e ∙ ap (splice j 3) w) refl (omega arith))
+      f refl (omega arith)
 
 -- ---- two names, and the sections
 
