@@ -7,4 +7,5 @@ use Rattle.handler.proofs.Demand2Layouts.{layouts-told}
 use Rattle.handler.proofs.Demand2Memory.{memory-told}
 
 pub the-manual-decides : TheManualDecides
-the-manual-decides w = record { layouts = layouts-told w; frames = frames-told w; memory = memory-told w; choice = choice-told w }
+the-manual-decides w =
+    record { layouts = layouts-told w; frames = frames-told w; memory = memory-told w; choice = choice-told w }

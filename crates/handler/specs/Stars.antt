@@ -4,23 +4,22 @@ use mathlib.Core.Path.{_≡_}
 use mathlib.Core.Bool.{Bool, true, false}
 use mathlib.Core.List.{List, [], _∷_, _++_}
 use lib.ListN.{length, take, replicate}
-use Rattle.words.specs.Rules.{Ruling, allowed, refused}
 use Rattle.words.specs.Runs.{part}
-use Rattle.registers.specs.Sizes.{elementWords}
+use Rattle.shape.specs.Calls.{Says, refuses, answers, done}
+use Rattle.shape.specs.Refusals.{names}
 use Rattle.registers.specs.declared.Registers.{Registers}
 use Rattle.frame.specs.Arbitration.{rankOf}
+use Rattle.frame.specs.Sizes.{elementWords}
 use Rattle.frame.specs.declared.Frame.{Frame}
 use Rattle.frame.specs.declared.Matched.the-variants.{Nothing, Filter}
 use Rattle.layout.specs.Sections.{memoryWords}
-use Rattle.layout.specs.Verdict.{Refusal, names}
 use Rattle.filter.specs.Destination.{reason}
 use Rattle.filter.specs.declared.Reason.the-variants.{Reject}
-use Rattle.engine.specs.Answers.{Says, refuses, answers}
+use Rattle.engine.specs.Calls.{World, world}
 use Rattle.engine.specs.States.{emptyState, noFlags}
 use Rattle.receiving.specs.Receive.{Fate, stored, storedBuffer, dropped}
 use Rattle.choosing.specs.Choosing.{Next, none, send}
-use Rattle.handler.specs.Calls.{World, start, receive, requestDedicated, askChoice}
-use Rattle.handler.specs.Steps.{step}
+use Rattle.handler.specs.Calls.{start, receive, requestDedicated, askChoice, step}
 
 infix 70 _gives_
 -- a row
@@ -33,8 +32,8 @@ abbrev pub _gives_ : {A : Type 0} → A → A → Star
 _gives_ {A = A} rules paper = record { Kind = A; rules = rules; paper = paper }
 
 -- an engine just started, and a memory of 2,560 words that begins with these
-abbrev pub started : Registers → List ℕ → World
-started g ws = record { state = emptyState g; status = noFlags; memory = ws ++ replicate (memoryWords - length ws) 0 }
+abbrev pub startedWith : Registers → List ℕ → World
+startedWith g ws = world (emptyState g) noFlags (ws ++ replicate (memoryWords - length ws) 0)
 
 -- data and remote frames without data, and FD frames with rate switch
 abbrev pub classic : Bool → Bool → ℕ → Frame
@@ -63,8 +62,8 @@ caseA rxf1c txbc = record {
   rateon = false;
 }
 
-abbrev pub layoutA : ℕ → ℕ → Ruling Refusal
-layoutA rxf1c txbc = step (started (caseA 0 0) []) (start (caseA rxf1c txbc)) .0 .says
+abbrev pub layoutA : ℕ → ℕ → Says (Unit {0})
+layoutA rxf1c txbc = step (startedWith (caseA 0 0) []) (start (caseA rxf1c txbc)) .says
 
 -- ---- case B: what a receive answers to a frame of an 11-bit identifier, with case A's layout and four filters
 
@@ -72,9 +71,11 @@ abbrev pub filtersB : List ℕ
 filtersB = 0x18160020 ∷ 0x50150120 ∷ 0x39300004 ∷ 0x8F0007CF ∷ []
 
 abbrev pub receiveB : ℕ → Says Fate
-receiveB id = step (started (caseA 0x00040260 0x06020428) filtersB) (receive (classic false false id) [] 0) .0
+receiveB id =
+    step (startedWith (caseA 0x00040260 0x06020428) filtersB) (receive (classic false false id) [] 0) .says
 
--- ---- elements of a size code: one in FIFO 0 from word 8 on, one dedicated Tx buffer from word 32 on, three filters; FD and rate switch are on
+-- ---- elements of a size code: one in FIFO 0 from word 8 on, one dedicated Tx buffer from word 32 on, three filters;
+-- FD and rate switch are on
 
 abbrev pub ofSize : ℕ → Registers
 ofSize code = record {
@@ -96,7 +97,9 @@ ofSize code = record {
 
 -- the element's words after a receive: filters 0 and 1 are off, and 2 sends 0x123 to FIFO 0
 abbrev pub wordsStored : ℕ → Frame → List ℕ → ℕ → List ℕ
-wordsStored code f d time = part 8 (elementWords code) (step (started (ofSize code) (0 ∷ 0 ∷ 0x09230123 ∷ [])) (receive f d time) .1 .memory)
+wordsStored code f d time =
+    part 8 (elementWords code)
+    (step (startedWith (ofSize code) (0 ∷ 0 ∷ 0x09230123 ∷ [])) (receive f d time) .world .memory)
 
 -- the bytes that go out after a request
 abbrev pub toSend : Says Next → List ℕ → List ℕ
@@ -106,27 +109,31 @@ toSend (answers (send c)) out = take (c .count) out
 
 abbrev pub bytesSent : ℕ → Frame → List ℕ → List ℕ
 bytesSent code f d =
-    let o = step (step (started (ofSize code) []) (requestDedicated 0 f d 0 false) .1) (askChoice false (replicate 64 0)) .0 in
+    let w = startedWith (ofSize code) [] in
+    let pending = step w (requestDedicated 0 (record { frame = f; marker = 0; wish = false }) d) .world in
+    let o = step pending (askChoice false (replicate 64 0)) in
     toSend (o .says) (o .output)
 
 -- ---- the table
 
 abbrev pub stars : List Star
 stars =
-    layoutA 0x0004025C 0x06020428 gives refused (names 15 2 3)
-    ∷ layoutA 0x00040260 0x060225C0 gives allowed
-    ∷ layoutA 0x00040260 0x060225C4 gives refused (names 14 6 7)
+    layoutA 0x0004025C 0x06020428 gives refuses (names 15 2 3)
+    ∷ layoutA 0x00040260 0x060225C0 gives done
+    ∷ layoutA 0x00040260 0x060225C4 gives refuses (names 14 6 7)
     ∷ receiveB 0x15 gives answers (stored 1 0 (Filter 1))
     ∷ receiveB 0x16 gives answers (dropped (reason Reject) (Filter 0))
     ∷ receiveB 0x20 gives answers (dropped (reason Reject) (Filter 0))
     ∷ receiveB 0x130 gives answers (storedBuffer 4 2)
     ∷ receiveB 0x720 gives answers (stored 0 0 (Filter 3))
     ∷ receiveB 0x740 gives answers (stored 0 0 Nothing)
-    ∷ wordsStored 0 (fast 0x123 8) (1 ∷ 2 ∷ 3 ∷ 4 ∷ 5 ∷ 6 ∷ 7 ∷ 8 ∷ []) 0x1234 gives (0x048C0000 ∷ 0x02381234 ∷ 0x04030201 ∷ 0x08070605 ∷ [])
+    ∷ wordsStored 0 (fast 0x123 8) (1 ∷ 2 ∷ 3 ∷ 4 ∷ 5 ∷ 6 ∷ 7 ∷ 8 ∷ []) 0x1234
+    gives (0x048C0000 ∷ 0x02381234 ∷ 0x04030201 ∷ 0x08070605 ∷ [])
     ∷ rankOf (classic false false 0x100) gives 0x20000000
     ∷ rankOf (classic false true 0x100) gives 0x20100000
     ∷ rankOf (classic true false 0x04000000) gives 0x20180000
-    ∷ bytesSent 0 (fast 0x123 9) (1 ∷ 2 ∷ 3 ∷ 4 ∷ 5 ∷ 6 ∷ 7 ∷ 8 ∷ 9 ∷ 10 ∷ 11 ∷ 12 ∷ []) gives (1 ∷ 2 ∷ 3 ∷ 4 ∷ 5 ∷ 6 ∷ 7 ∷ 8 ∷ 0xCC ∷ 0xCC ∷ 0xCC ∷ 0xCC ∷ [])
+    ∷ bytesSent 0 (fast 0x123 9) (1 ∷ 2 ∷ 3 ∷ 4 ∷ 5 ∷ 6 ∷ 7 ∷ 8 ∷ 9 ∷ 10 ∷ 11 ∷ 12 ∷ [])
+    gives (1 ∷ 2 ∷ 3 ∷ 4 ∷ 5 ∷ 6 ∷ 7 ∷ 8 ∷ 0xCC ∷ 0xCC ∷ 0xCC ∷ 0xCC ∷ [])
     ∷ []
 
 -- every row holds
