@@ -11,8 +11,19 @@ returns : tie.Need-returns
 unfolding receiveCall
 returns c = search (turned-away, needs)
 
+put-both-requires : tie.Need-put-both-requires
+put-both-requires c κs =
+    let entered = c .before .before .before .before .before .before .before .before in
+    search (open-box, entered .if1 .left, entered .before .enter-frame .ensures)
+
 tell-received-requires : tie.Need-tell-received-requires
-tell-received-requires c κs = record { room = search (open-second, needs); fits = search (fate-told, needs) }
+tell-received-requires c κs =
+    let told = c .before .before .before .before .before .before .before .before .before .before in
+    let entered = told .before .before .before .before in
+    record {
+      room = search (open-second, entered .if1 .left, entered .before .enter-frame .ensures);
+      fits = search (fate-told, told .receive-of .ensures .0);
+    }
 
 returns-2 : tie.Need-returns-2
 unfolding receiveCall
@@ -25,7 +36,7 @@ receive-spec =
     (λ c κs. search needs) (λ c. search needs) (λ c. search needs)
     returns
     (λ c κs. search (open-box, open-first, needs))
-    (λ c κs. search (open-box, needs))
+    put-both-requires
     tell-received-requires
     (λ c. search needs) (λ c. search needs) (λ c. search needs) (λ c. search needs)
     returns-2)
