@@ -32,8 +32,11 @@ module _ (s : State) (mem : List ℕ) where
   choice-small : Sound s (length mem) → (n : ℕ) → choice s mem ≡ somebody n → n < 32
   unfolding choice
   choice-small sound n e =
-      omega (arith, best-wins (isCandidate s) (rankAt s mem) (txCount (s .regs)) n e .below,
-      sound .legal .counted .together)
+      omega (
+        arith,
+        best-wins (isCandidate s) (rankAt s mem) (txCount (s .regs)) n e .below,
+        sound .legal .counted .together,
+      )
 
 pub nothing-is-no-buffer : NothingIsNoBuffer
 unfolding chooses

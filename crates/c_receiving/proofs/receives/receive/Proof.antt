@@ -18,11 +18,11 @@ put-both-requires c κs =
 
 tell-received-requires : tie.Need-tell-received-requires
 tell-received-requires c κs =
-    let told = c .before .before .before .before .before .before .before .before .before .before in
-    let entered = told .before .before .before .before in
+    let entered =
+    c .before .before .before .before .before .before .before .before .before .before .before .before .before .before in
     record {
       room = search (open-second, entered .if1 .left, entered .before .enter-frame .ensures);
-      fits = search (fate-told, told .receive-of .ensures .0);
+      fits = search (fate-told, needs);
     }
 
 returns-2 : tie.Need-returns-2
