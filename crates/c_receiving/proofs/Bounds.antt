@@ -38,9 +38,10 @@ module _ (w : World) (f : Frame) (d : List ℕ) (time : ℕ) where
   fates-fit : Fated (receive w f d time)
   unfolding intoFifo intoBuffer intoNothing
   fates-fit =
+      let s = w .state in
       receive-cases w f d time Fated (λ n. tt)
       (λ o. receives-cases w f d time o (λ (e : Effect Fate). FateFits (answers (e .answer)))
-      (λ k priority m x. slot-fits k m (keepRule (keeperOf (w .state .regs) k) (fifoRing (w .state) k) (w .recorded) .slot))
+      (λ k priority m x. slot-fits k m (keepRule (keeperOf (s .regs) k) (fifoRing s k) (w .recorded) .slot))
       (λ b i x y z. z) (λ why m b. b))
 
   pub fate-told : (says : Says Fate) (after : World) (out : List ℕ) → outcome says after out ≡ receive w f d time
