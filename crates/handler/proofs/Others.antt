@@ -1,209 +1,159 @@
--- The words of the memory and the bytes of an output that no answer names are as they were.
+-- What no answer names is as it was: words of the memory, bytes of the output, parts of state and record.
 -- Assumes nothing.
 use Prim.Native.Nat.{ℕ, _+_, _≤_, _<_}
-use mathlib.Core.Path.{_≡_, refl, sym, subst}
-use mathlib.Core.Bool.{Bool, true, false, _&&_}
+use mathlib.Core.Path.{_≡_, refl, sym, _∙_, subst}
+use mathlib.Core.Bool.{Bool}
 use mathlib.Core.List.{List, [], _∷_}
 use mathlib.Core.Logic.{_⊎_, inl, inr}
-use borrow.Author.Tests.{eqb-true, not-false}
 use native.Mathlib.Omega.{arith}
-use lib.Dec.{eqb, ltb}
-use lib.ListN.{length}
+use lib.ListN.{length, getD, List·getD-eq-default}
 use Rattle.words.specs.Best.{Best, nobody, somebody}
-use Rattle.words.specs.Choice.{pick}
-use Rattle.words.specs.Rules.{refuseIf, first}
+use Rattle.words.specs.Ranges.{Range, front, OnlyIn}
+use Rattle.words.specs.Rules.{allowed, first}
 use Rattle.words.specs.Runs.{run, splice}
+use Rattle.words.proofs.Ranges.{only-none, splice-only}
 use Rattle.words.proofs.Runs.{length-run}
-use Rattle.ring.specs.Rings.{putPlace}
-use Rattle.ring.specs.declared.Ring.{Ring}
-use Rattle.registers.specs.declared.Registers.{Registers}
+use Rattle.shape.proofs.Calls.{rows-both}
 use Rattle.frame.specs.declared.Frame.{Frame}
 use Rattle.frame.proofs.Lengths.{length-most}
-use Rattle.element.specs.Bytes.{lengthOf, readCount, rxRead, readBytes, sentFrom}
-use Rattle.element.specs.Elements.{eventElement}
-use Rattle.element.specs.Headers.{frameIn, headed}
-use Rattle.element.proofs.RoundTrip.{placed, event-placed}
-use Rattle.engine.specs.Answers.{Says, refuses, answers, done, wrongOutput}
-use Rattle.engine.specs.Areas.{fifoArea, bufferArea, eventArea, eventSize, txArea, placeIn}
-use Rattle.engine.specs.Fitness.{unfit, Sound}
-use Rattle.engine.specs.Keeping.{keepRule, slotMemory}
-use Rattle.engine.specs.declared.areas.Area.{Area}
-use Rattle.engine.specs.declared.keeping.Kept.{Kept}
-use Rattle.engine.specs.declared.keeping.Slot.{Slot}
-use Rattle.engine.specs.declared.keeping.Slot.the-variants.{At, Lost}
+use Rattle.element.specs.Bytes.{sentFrom}
+use Rattle.layout.specs.Sections.{sectionsOf}
+use Rattle.places.specs.declared.Area.{Area}
+use Rattle.areas.specs.Areas.{fifoArea, bufferArea}
+use Rattle.engine.specs.Calls.{World, Outcome, outputBytes, outputRefusals}
+use Rattle.engine.specs.Flags.{raised, cleared}
 use Rattle.engine.specs.declared.state.State.{State}
-use Rattle.engine.specs.declared.state.Record.{Record}
-use Rattle.engine.proofs.Rooms.{place-room, event-roomy}
-use Rattle.receiving.specs.Promises.{InElement, Written}
-use Rattle.taking.specs.Reading.{ReadOutcome, readIn}
-use Rattle.receiving.specs.Receive.{Fate, stored, storedBuffer, lostTo, dropped, receiveRule}
-use Rattle.receiving.proofs.OneElement.{receive-writes-one-element}
-use Rattle.words.proofs.Rulings.{settled, all-two}
-use Rattle.taking.proofs.Outcomes.{read-fifo-cases, read-buffer-cases}
-use Rattle.choosing.specs.Buffers.{headerOf}
-use Rattle.choosing.specs.Choosing.{ChoiceOutcome, choice, chosen, choiceRule, sentFrame}
-use Rattle.reporting.specs.Reporting.{ReportOutcome, eventKeeper, sentStatus, reported, SlotIn}
-use Rattle.reporting.proofs.Reports.{kept-in}
-use Rattle.sending.specs.Promises.{OnlyAt}
-use Rattle.sending.specs.Requesting.{RequestOutcome}
-use Rattle.sending.proofs.Changes.{refused-leaves-all, calls-change-own}
-use Rattle.sending.proofs.Ways.{report-ways}
-use Rattle.handler.specs.Calls.{World, Call, start, receive, readFifo, acknowledgeFifo, readBuffer, releaseBuffer, requestDedicated, requestShared, cancel, askChoice, reportSent, readEvent, acknowledgeEvent, clearFlags, status}
-use Rattle.handler.specs.Named.{Words, noWords, SameBut, unlessRefused, elementAt, storedAt, eventAt, named, lent, output, front, readFront, sentFront, written}
-use Rattle.handler.specs.Steps.{step}
+use Rattle.engine.proofs.Calls.{output-fits}
+use Rattle.starting.specs.Starting.{unreported, flat}
+use Rattle.receiving.specs.Receive.{receiveRefusals, intoFifo, intoBuffer, intoNothing, goesTo}
+use Rattle.taking.specs.Places.{fifoRefusals, bufferRefusals}
+use Rattle.requesting.specs.Requesting.{dedicatedRefusals, sharedRefusals, requests}
+use Rattle.requesting.specs.Cancelling.{cancelRefusals}
+use Rattle.choosing.specs.Choosing.{choiceRefusals, choice, sentFrame, nextOf, outputOf, chooses}
+use Rattle.reporting.specs.Reporting.{reportRefusals}
+use Rattle.events.specs.Events.{eventRefusals}
+use Rattle.overview.specs.Overview.{overviewRefusals}
+use Rattle.receiving.proofs.Elements.{receive-memory}
+use Rattle.filter.specs.Destination.{Goes, toFifo, toBuffer, discarded, destination}
+use Rattle.taking.specs.Reading.{reads}
+use Rattle.taking.specs.Releasing.{released}
+use Rattle.taking.proofs.OwnElement.{reads-front}
+use Rattle.requesting.proofs.Memory.{dedicated-only, shared-only}
+use Rattle.choosing.proofs.Calls.{choice-open}
+use Rattle.reporting.proofs.Judgements.{report-open}
+use Rattle.reporting.proofs.Own.{report-only}
+use Rattle.handler.specs.Calls.{Call, start, receive, readFifo, acknowledgeFifo, readBuffer, releaseBuffer}
+use Rattle.handler.specs.Calls.{requestDedicated, requestShared, cancel, askChoice, reportSent, readEvent}
+use Rattle.handler.specs.Calls.{acknowledgeEvent, clearFlags, reportStatus, Answer, given}
+use Rattle.handler.specs.Changes.{Part, events, shared, newData, pending, sent, cancelled, flags, everyPart}
+use Rattle.handler.specs.Changes.{nothing, partsOnly, bytesOnly, byChoice, changesOf, named}
+use Rattle.handler.specs.Demand1.{OthersStay, OnlyTheNamedChanges}
+use Rattle.handler.specs.Rows.{rows}
+use Rattle.handler.proofs.Exact.{does, step-cases}
+use Rattle.handler.proofs.Parts.{Stays, stays, all-stay, fifo-parts, goes-parts, report-parts}
 
--- nothing changed
-untouched : (ws : Words) (l : List ℕ) → SameBut ws l l
-untouched ws l = record { size = refl; outside = λ i c. refl }
+-- ---- outputs
 
--- ---- call 2
-
-abbrev Outside : Words → ℕ → Type 0
-Outside ws k = (k < ws .from) ⊎ (ws .from + ws .count ≤ k)
-
-apart : (a : Area) (place k : ℕ) → Outside (elementAt a place) k → InElement a place k → ⊥
-apart a place k (inl l) i = omega (arith, l, i .from)
-apart a place k (inr l) i = omega (arith, l, i .below)
-
-not-written : (g : Registers) (x : Says Fate) (k : ℕ) → Outside (unlessRefused x noWords (storedAt g)) k → Written g x k → ⊥
-not-written g (answers (stored fifo place m)) k c i = apart _ place k c i
-not-written g (answers (storedBuffer buffer n)) k c i = apart _ buffer k c i
-not-written g (answers (lostTo fifo m)) k c i = i
-not-written g (answers (dropped why m)) k c i = i
-not-written g (refuses n) k c i = i
-
--- ---- calls 7 and 8
-
-requested-memory : (s : State) (mem : List ℕ) (o : RequestOutcome)
-    → ((b : ℕ) → o .says ≡ answers b → OnlyAt mem (o .memory) (placeIn (txArea (s .regs)) b) (txArea (s .regs) .each))
-    → ((n : ℕ) → o .says ≡ refuses n → (o .state ≡ s) × (o .memory ≡ mem))
-    → SameBut (unlessRefused (o .says) noWords (elementAt (txArea (s .regs)))) mem (o .memory)
-requested-memory s mem o on off = go (o .says) refl
-  where
-    go : (x : Says ℕ) → o .says ≡ x → SameBut (unlessRefused x noWords (elementAt (txArea (s .regs)))) mem (o .memory)
-    go (answers b) e = on b e
-    go (refuses n) e = subst (λ (l : List ℕ). SameBut noWords mem l) (sym (off n e .1)) (untouched noWords mem)
-
--- ---- call 11
-
--- an event goes to the put place where the list has room, and nowhere else
-either-lost : (c : Bool) (a b : Kept) → a .slot ≡ Lost → b .slot ≡ Lost → pick c a b .slot ≡ Lost
-either-lost true a b p q = p
-either-lost false a b p q = q
-
-event-slot : (g : Registers) (q : Ring) (r : Record) (b : Bool) → ltb (q .fill) (eventSize g) ≡ b → keepRule (eventKeeper g) q r .slot ≡ pick b (At (putPlace q (eventSize g))) Lost
-unfolding keepRule
-event-slot g q r true e = simp e
-event-slot g q r false e = simp e (either-lost (eqb (eventSize g) 0) _ _ refl refl)
-
--- at a slot that is a place of the list
-slot-memory : (s : State) (mem : List ℕ) (marker : ℕ) (f : Frame) (time p : ℕ) (b : Bool) → Sound s (length mem) → SlotIn (pick b (At p) Lost) (eventSize (s .regs))
-    → SameBut (pick b (elementAt (eventArea (s .regs)) p) noWords) mem (slotMemory mem (eventArea (s .regs)) (eventElement marker f time) (pick b (At p) Lost))
-slot-memory s mem marker f time p true h l =
-    let room = event-roomy (s .regs) (length mem) (h .legal) in
-    let e = event-placed mem (placeIn (eventArea (s .regs)) p) marker f time (omega (arith, place-room (eventArea (s .regs)) p (length mem) room l)) in
-    record { size = e .size; outside = e .outside }
-slot-memory s mem marker f time p false h l = untouched noWords mem
-
--- with an event that is due, and without
-due-or-not : (mem : List ℕ) (ws : Words) (b t : Bool) (x y : ReportOutcome) → x .says ≡ done → y .says ≡ done → SameBut (pick b ws noWords) mem (x .memory) → y .memory ≡ mem
-    → SameBut (unlessRefused (pick t x y .says) noWords (λ u. pick (t && b) ws noWords)) mem (pick t x y .memory)
-due-or-not mem ws b true x y p q m n = subst (λ (z : Says (Unit {0})). SameBut (unlessRefused z noWords (λ u. pick b ws noWords)) mem (x .memory)) (sym p) m
-due-or-not mem ws b false x y p q m n =
-    subst (λ (z : Says (Unit {0})). SameBut (unlessRefused z noWords (λ u. noWords)) mem (y .memory)) (sym q) (subst (λ (l : List ℕ). SameBut noWords mem l) (sym n) (untouched noWords mem))
-
-module _ (w : World) (buffer : ℕ) (passive : Bool) (time : ℕ) where
-  abbrev room : Bool
-  room = ltb (w .state .events .fill) (eventSize (w .state .regs))
-
-  reported-memory : Sound (w .state) (length (w .memory)) → let o = reported (w .state) (w .status) (w .memory) buffer passive time in
-      SameBut (unlessRefused (o .says) noWords (λ u. eventAt w buffer)) (w .memory) (o .memory)
-  unfolding reported
-  reported-memory h =
-      let s = w .state in
-      let e = event-slot (s .regs) (s .events) (sentStatus s (w .status) buffer) room refl in
-      let inside = subst (λ (x : Slot). SlotIn x (eventSize (s .regs))) e (kept-in (eventKeeper (s .regs)) (s .events) (sentStatus s (w .status) buffer) (record { ring = h .events; flags = omega arith })) in
-      due-or-not (w .memory) (elementAt (eventArea (s .regs)) (putPlace (s .events) (eventSize (s .regs)))) room (headerOf s (w .memory) buffer .wish) _ _ refl refl
-      (subst
-      (λ (x : Slot). SameBut (pick room (elementAt (eventArea (s .regs)) (putPlace (s .events) (eventSize (s .regs)))) noWords) (w .memory) (slotMemory (w .memory) (eventArea (s .regs)) (eventElement (headerOf s (w .memory) buffer .marker) (sentFrame s (w .memory) passive buffer) time) x))
-      (sym e)
-      (slot-memory s (w .memory) _ _ time _ room h inside)) refl
-
--- ---- calls 3, 5 and 10
-
-front-written : (out : List ℕ) (f : ℕ → ℕ) (n : ℕ) → n ≤ length out → SameBut (front n) out (splice out 0 (run f 0 n))
+front-written : (out : List ℕ) (f : ℕ → ℕ) (n : ℕ) → n ≤ length out → OnlyIn (front n) out (splice out 0 (run f 0 n))
 front-written out f n h =
-    let p = placed out 0 (run f 0 n) (omega (arith, length-run f 0 n)) in
-    record { size = p .size; outside = λ i c. p .outside i (subst (λ (k : ℕ). (i < 0) ⊎ (0 + k ≤ i)) (sym (length-run f 0 n)) c) }
+    subst (λ (k : ℕ). OnlyIn (front k) out (splice out 0 (run f 0 n))) (length-run f 0 n)
+    (splice-only out 0 (run f 0 n) (omega (arith, length-run f 0 n)))
 
--- no frame has more than 64 bytes
-few : (f : Frame) → lengthOf f ≤ 64
-few f = length-most (f .rtr) (f .fdf) (f .dlc)
+-- past the end of both there is nothing
+past-end : (l m : List ℕ) (n k : ℕ) → length l ≤ n → length m ≤ n → (k < 0) ⊎ (0 + n ≤ k) → getD l k 0 ≡ getD m k 0
+past-end l m n k a b (inl x) = absurd (omega arith)
+past-end l m n k a b (inr x) = List·getD-eq-default l 0 (omega arith) ∙ sym (List·getD-eq-default m 0 (omega arith))
 
-read-output : (mem : List ℕ) (a : Area) (place : ℕ) (out : List ℕ) → length out ≡ 64 → let o = readIn mem a place out in SameBut (unlessRefused (o .says) noWords readFront) out (o .output)
-unfolding rxRead readBytes readCount
-read-output mem a place out e = front-written out _ _ (omega (arith, few (headed frameIn mem (placeIn a place))))
-
-chosen-output : (s : State) (mem : List ℕ) (passive : Bool) (out : List ℕ) → length out ≡ 64 → (b : Best) → let o = chosen s mem passive out b in
-    SameBut (unlessRefused (o .says) noWords sentFront) out (o .output)
+-- call 10
+choice-front : (s : State) (mem : List ℕ) (passive : Bool) (out : List ℕ) → length out ≡ outputBytes → (b : Best)
+    → OnlyIn (byChoice (nextOf s mem passive b) .output) out (outputOf s mem passive out b)
 unfolding sentFrom
-chosen-output s mem passive out e nobody = untouched noWords out
-chosen-output s mem passive out e (somebody b) = front-written out _ _ (omega (arith, few (sentFrame s mem passive b)))
+choice-front s mem passive out e nobody = only-none (front 0) out
+choice-front s mem passive out e (somebody b) =
+    let f = sentFrame s mem passive b in
+    front-written out _ _ (omega (arith, length-most (f .rtr) (f .fdf) (f .dlc)))
 
-choice-output : (s : State) (r : Record) (mem : List ℕ) (passive : Bool) (out : List ℕ) → let o = choiceRule s r mem passive out in SameBut (unlessRefused (o .says) noWords sentFront) out (o .output)
-unfolding choiceRule
-choice-output s r mem passive out =
-    settled (λ (o : ChoiceOutcome). SameBut (unlessRefused (o .says) noWords sentFront) out (o .output))
-    (first (refuseIf (unfit s r (length mem)) 20 ∷ refuseIf (wrongOutput out) 30 ∷ [])) (chosen s mem passive out (choice s mem)) (λ n. record { says = refuses n; output = out })
-    (λ n. untouched noWords out)
-    (λ e. chosen-output s mem passive out (eqb-true (length out) 64 (not-false (eqb (length out) 64) (all-two (unfit s r (length mem)) (wrongOutput out) 20 30 e .1))) (choice s mem))
+-- call 2 is lent none
+no-output : (w : World) (f : Frame) (d : List ℕ) (time : ℕ) (g : Goes) → OnlyIn (front 0) [] (goesTo w f d time g .output)
+unfolding intoFifo intoBuffer intoNothing
+no-output w f d time (toFifo fifo on m) = only-none (front 0) []
+no-output w f d time (toBuffer buffer i) = only-none (front 0) []
+no-output w f d time (discarded why m) = only-none (front 0) []
 
 -- ---- every call
 
-pub memory-stays : (w : World) (c : Call) → SameBut (named w c (step w c .0)) (w .memory) (step w c .1 .memory)
-unfolding step
-memory-stays w (start g) = untouched noWords (w .memory)
-memory-stays w (receive f d time) =
-    let o = receive-writes-one-element (w .state) (w .status) (w .memory) f d time in
-    record { size = o .size; outside = λ k c. o .others k (λ i. not-written (w .state .regs) (receiveRule (w .state) (w .status) (w .memory) f d time .says) k c i) }
-memory-stays w (readFifo fifo place out) = untouched noWords (w .memory)
-memory-stays w (acknowledgeFifo fifo place) = untouched noWords (w .memory)
-memory-stays w (readBuffer buffer out) = untouched noWords (w .memory)
-memory-stays w (releaseBuffer buffer) = untouched noWords (w .memory)
-memory-stays w (requestDedicated buffer f d marker wish) =
-    requested-memory (w .state) (w .memory) _ (calls-change-own (w .state) (w .status) (w .memory) .dedicated buffer f d marker wish)
-    (refused-leaves-all (w .state) (w .status) (w .memory) .dedicated buffer f d marker wish)
-memory-stays w (requestShared f d marker wish) =
-    requested-memory (w .state) (w .memory) _ (calls-change-own (w .state) (w .status) (w .memory) .shared f d marker wish)
-    (refused-leaves-all (w .state) (w .status) (w .memory) .shared f d marker wish)
-memory-stays w (cancel buffer) = untouched noWords (w .memory)
-memory-stays w (askChoice passive out) = untouched noWords (w .memory)
-memory-stays w (reportSent buffer passive time) =
-    report-ways (w .state) (w .status) (w .memory) buffer passive time (λ (o : ReportOutcome). SameBut (unlessRefused (o .says) noWords (λ u. eventAt w buffer)) (w .memory) (o .memory))
-    (λ n. untouched noWords (w .memory)) (λ h l e. reported-memory w buffer passive time h)
-memory-stays w (readEvent place) = untouched noWords (w .memory)
-memory-stays w (acknowledgeEvent place) = untouched noWords (w .memory)
-memory-stays w (clearFlags mask) = untouched noWords (w .memory)
-memory-stays w status = untouched noWords (w .memory)
+nothing-changes : (w : World) (out : List ℕ) → OthersStay w out w out nothing
+nothing-changes w out = record { memory = only-none _ _; output = only-none _ _; parts = all-stay w }
 
-pub output-stays : (w : World) (c : Call) → SameBut (written c (step w c .0)) (lent c) (output c (step w c .0))
-unfolding step
-output-stays w (start g) = untouched noWords []
-output-stays w (receive f d time) = untouched noWords []
-output-stays w (readFifo fifo place out) =
-    read-fifo-cases (w .state) (w .status) (w .memory) out (λ (o : ReadOutcome). SameBut (unlessRefused (o .says) noWords readFront) out (o .output)) (λ n. untouched noWords out) fifo place
-    (λ u l h e. read-output (w .memory) (fifoArea (w .state .regs) fifo) place out e)
-output-stays w (acknowledgeFifo fifo place) = untouched noWords []
-output-stays w (readBuffer buffer out) =
-    read-buffer-cases (w .state) (w .status) (w .memory) out (λ (o : ReadOutcome). SameBut (unlessRefused (o .says) noWords readFront) out (o .output)) (λ n. untouched noWords out) buffer
-    (λ u l h e. read-output (w .memory) (bufferArea (w .state .regs)) buffer out e)
-output-stays w (releaseBuffer buffer) = untouched noWords []
-output-stays w (requestDedicated buffer f d marker wish) = untouched noWords []
-output-stays w (requestShared f d marker wish) = untouched noWords []
-output-stays w (cancel buffer) = untouched noWords []
-output-stays w (askChoice passive out) = choice-output (w .state) (w .status) (w .memory) passive out
-output-stays w (reportSent buffer passive time) = untouched noWords []
-output-stays w (readEvent place) = untouched noWords []
-output-stays w (acknowledgeEvent place) = untouched noWords []
-output-stays w (clearFlags mask) = untouched noWords []
-output-stays w status = untouched noWords []
+-- the memory as it was, and no output
+parts-change : (ps : List Part) (w v : World) → v .memory ≡ w .memory → Stays ps w v
+    → OthersStay w [] v [] (partsOnly ps)
+parts-change ps w v e h = record { memory = rw e (only-none _ _); output = only-none _ _; parts = h }
+
+-- the output alone
+output-changes : (n : ℕ) (w : World) (out last : List ℕ) → OnlyIn (front n) out last → OthersStay w out w last (bytesOnly n)
+output-changes n w out last h = record { memory = only-none _ _; output = h; parts = all-stay w }
+
+choice-others : (s : State) (mem : List ℕ) (passive : Bool) (out : List ℕ) → length out ≡ outputBytes → (b : Best) (w : World)
+    → OthersStay w out w (outputOf s mem passive out b) (byChoice (nextOf s mem passive b))
+choice-others s mem passive out e nobody w = nothing-changes w out
+choice-others s mem passive out e (somebody b) w = output-changes _ w out _ (choice-front s mem passive out e (somebody b))
+
+-- a read
+read-others : (w : World) (a : Area) (place : ℕ) (out : List ℕ) → length out ≡ outputBytes
+    → let d = reads w a place out in OthersStay w out (d .world) (d .output) (bytesOnly (d .answer .count))
+unfolding reads
+read-others w a place out e = output-changes _ w out _ (reads-front w a place out e)
+
+others : (w : World) (c : Call) → first (rows w c) ≡ allowed
+    → let d = does w c in OthersStay w (given c .output) (d .world) (d .output) (changesOf w c (d .answer))
+unfolding rows outputRefusals fifoRefusals bufferRefusals receiveRefusals dedicatedRefusals sharedRefusals cancelRefusals
+    choiceRefusals reportRefusals eventRefusals overviewRefusals
+    released cleared raised chooses requests
+others w (start g) e = record {
+  memory = only-none _ _;
+  output = record { size = refl; outside = λ k c. past-end (flat (sectionsOf g)) unreported 14 k (omega arith) (omega arith) c };
+  parts = stays everyPart _ w refl (λ h. cc) (λ h. cc);
+}
+others w (receive f d time) e = record {
+  memory = receive-memory w f d time e;
+  output = no-output w f d time (destination (w .state .regs) (w .memory) f (w .state .newdata));
+  parts = goes-parts w f d time (destination (w .state .regs) (w .memory) f (w .state .newdata));
+}
+others w (readFifo fifo place out) e =
+    read-others w (fifoArea (w .state .regs) fifo) place out
+    (output-fits (length out) (rows-both (fifoRefusals w fifo place) (outputRefusals (length out)) e .1))
+others w (acknowledgeFifo fifo place) e = parts-change _ w _ refl (fifo-parts w fifo _)
+others w (readBuffer buffer out) e =
+    read-others w (bufferArea (w .state .regs)) buffer out
+    (output-fits (length out) (rows-both (bufferRefusals w buffer) (outputRefusals (length out)) e .1))
+others w (releaseBuffer buffer) e = parts-change _ w _ refl (stays (newData ∷ []) _ w refl (λ h. refl) (λ h. refl))
+others w (requestDedicated buffer h d) e = record {
+  memory = dedicated-only w h d buffer e;
+  output = only-none _ _;
+  parts = stays (pending ∷ sent ∷ cancelled ∷ []) _ w refl (λ x. refl) (λ x. refl);
+}
+others w (requestShared h d) e = record {
+  memory = shared-only w h d e;
+  output = only-none _ _;
+  parts = stays (pending ∷ sent ∷ cancelled ∷ shared ∷ []) _ w refl (λ x. refl) (λ x. refl);
+}
+others w (cancel buffer) e =
+    parts-change _ w _ refl (stays (pending ∷ cancelled ∷ flags ∷ []) _ w refl (λ x. cc) (λ x. refl))
+others w (askChoice passive out) e =
+    choice-others (w .state) (w .memory) passive out (choice-open w out e .room) (choice (w .state) (w .memory)) w
+others w (reportSent buffer passive time) e = record {
+  memory = report-only w buffer passive time (report-open w buffer e .sound);
+  output = only-none _ _;
+  parts = report-parts w buffer passive time;
+}
+others w (readEvent place) e = nothing-changes w []
+others w (acknowledgeEvent place) e = parts-change _ w _ refl (stays (events ∷ []) _ w refl (λ x. refl) (λ x. refl))
+others w (clearFlags mask) e = parts-change _ w _ refl (stays (flags ∷ []) _ w refl (λ x. cc) (λ x. refl))
+others w reportStatus e = nothing-changes w []
+
+pub only-the-named-changes : OnlyTheNamedChanges
+only-the-named-changes w c =
+    step-cases w c
+    (λ (o : Outcome (Answer c)). OthersStay w (given c .output) (o .world) (o .output) (named w c (o .says)))
+    (λ n. nothing-changes w (given c .output)) (others w c)

@@ -1,47 +1,57 @@
 -- A fit world stays fit under every call, and so under any run of calls.
 -- Assumes nothing.
-use mathlib.Core.Path.{_≡_, refl}
+use mathlib.Core.Path.{_≡_, sym, _∙_}
 use mathlib.Core.Bool.{false}
 use mathlib.Core.List.{[], _∷_}
 use lib.ListN.{length}
-use Rattle.words.specs.Rules.{Ruling, allowed, refused}
-use Rattle.registers.specs.declared.Registers.{Registers}
-use Rattle.layout.specs.Verdict.{Refusal}
-use Rattle.engine.specs.Fitness.{unfit}
-use Rattle.engine.specs.Starting.{startRule}
-use Rattle.engine.proofs.Fits.{start-is-fit, clear-keeps-fit, refused-start-changes-nothing}
-use Rattle.receiving.proofs.StillFit
-use Rattle.sending.proofs.Staying
-use Rattle.handler.specs.Calls.{World, Call, start, receive, readFifo, acknowledgeFifo, readBuffer, releaseBuffer, requestDedicated, requestShared, cancel, askChoice, reportSent, readEvent, acknowledgeEvent, clearFlags, status}
-use Rattle.handler.specs.Demand1.{IsFit, FitAfterAnyCalls}
-use Rattle.handler.specs.Steps.{step}
+use Rattle.words.specs.Rules.{allowed, first}
+use Rattle.engine.specs.Calls.{World, Outcome, isUnfit, outputRefusals}
+use Rattle.starting.proofs.Fits.{start-ruled, empty-is-fit}
+use Rattle.receiving.specs.Receive.{receiveRefusals}
+use Rattle.taking.specs.Places.{fifoRefusals, bufferRefusals}
+use Rattle.requesting.specs.Requesting.{dedicatedRefusals, sharedRefusals}
+use Rattle.requesting.specs.Cancelling.{cancelRefusals}
+use Rattle.choosing.specs.Choosing.{choiceRefusals, chooses}
+use Rattle.reporting.specs.Reporting.{reportRefusals}
+use Rattle.events.specs.Events.{eventRefusals}
+use Rattle.overview.specs.Overview.{overviewRefusals}
+use Rattle.receiving.proofs.StillFit.{receive-fit}
+use Rattle.taking.specs.Reading.{reads}
+use Rattle.taking.proofs.Fits.{acknowledge-fit, release-fit}
+use Rattle.requesting.proofs.Fits.{dedicated-fit, shared-fit, cancel-fit}
+use Rattle.reporting.proofs.Fits.{report-fit}
+use Rattle.events.proofs.Fits.{acknowledge-event-fit}
+use Rattle.overview.proofs.Fits.{cleared-fit}
+use Rattle.handler.specs.Calls.{Call, start, receive, readFifo, acknowledgeFifo, readBuffer, releaseBuffer}
+use Rattle.handler.specs.Calls.{requestDedicated, requestShared, cancel, askChoice, reportSent, readEvent}
+use Rattle.handler.specs.Calls.{acknowledgeEvent, clearFlags, reportStatus, Answer, step}
+use Rattle.handler.specs.Demand1.{FitAfterAnyCalls}
+use Rattle.handler.specs.Rows.{rows}
+use Rattle.handler.proofs.Exact.{does, step-cases}
 
-start-fit : (w : World) (g : Registers) → IsFit w
-    → (v : Ruling Refusal) → startRule (w .state) (w .status) g (length (w .memory)) .says ≡ v
-    → unfit (startRule (w .state) (w .status) g (length (w .memory)) .state) (startRule (w .state) (w .status) g (length (w .memory)) .status) (length (w .memory)) ≡ false
-start-fit w g h allowed e = start-is-fit (w .state) (w .status) g (length (w .memory)) e
-start-fit w g h (refused n) e =
-    let same = refused-start-changes-nothing (w .state) (w .status) g (length (w .memory)) n e in
-    rw (same .0, same .1) h
+does-fit : (w : World) (c : Call) → isUnfit w ≡ false → first (rows w c) ≡ allowed → isUnfit (does w c .world) ≡ false
+unfolding rows outputRefusals fifoRefusals bufferRefusals receiveRefusals dedicatedRefusals sharedRefusals cancelRefusals
+    choiceRefusals reportRefusals eventRefusals overviewRefusals
+    reads chooses
+does-fit w (start g) h e = empty-is-fit g (length (w .memory)) (sym (start-ruled g (length (w .memory))) ∙ e)
+does-fit w (receive f d time) h e = receive-fit w f d time e
+does-fit w (readFifo fifo place out) h e = h
+does-fit w (acknowledgeFifo fifo place) h e = acknowledge-fit w fifo place e
+does-fit w (readBuffer buffer out) h e = h
+does-fit w (releaseBuffer buffer) h e = release-fit w buffer e
+does-fit w (requestDedicated buffer q d) h e = dedicated-fit w q d buffer e
+does-fit w (requestShared q d) h e = shared-fit w q d e
+does-fit w (cancel buffer) h e = cancel-fit w buffer e
+does-fit w (askChoice passive out) h e = h
+does-fit w (reportSent buffer passive time) h e = report-fit w buffer passive time e
+does-fit w (readEvent place) h e = h
+does-fit w (acknowledgeEvent place) h e = acknowledge-event-fit w place e
+does-fit w (clearFlags mask) h e = cleared-fit (w .state) (w .recorded) (length (w .memory)) mask h
+does-fit w reportStatus h e = h
 
-step-fit : (w : World) (c : Call) → IsFit w → IsFit (step w c .1)
-unfolding step
-step-fit w (start g) h = start-fit w g h (startRule (w .state) (w .status) g (length (w .memory)) .says) refl
-step-fit w (receive f d time) h = StillFit.fit-stays-fit .receive (w .state) (w .status) (w .memory) f d time h
-step-fit w (readFifo fifo place out) h = h
-step-fit w (acknowledgeFifo fifo place) h = StillFit.fit-stays-fit .acknowledge (w .state) (w .status) (length (w .memory)) fifo place h
-step-fit w (readBuffer buffer out) h = h
-step-fit w (releaseBuffer buffer) h = StillFit.fit-stays-fit .release (w .state) (w .status) (length (w .memory)) buffer h
-step-fit w (requestDedicated buffer f d marker wish) h = Staying.fit-stays-fit (w .state) (w .status) (w .memory) h .dedicated buffer f d marker wish
-step-fit w (requestShared f d marker wish) h = Staying.fit-stays-fit (w .state) (w .status) (w .memory) h .shared f d marker wish
-step-fit w (cancel buffer) h = Staying.fit-stays-fit (w .state) (w .status) (w .memory) h .cancel buffer
-step-fit w (askChoice passive out) h = h
-step-fit w (reportSent buffer passive time) h = Staying.fit-stays-fit (w .state) (w .status) (w .memory) h .report buffer passive time
-step-fit w (readEvent place) h = h
-step-fit w (acknowledgeEvent place) h = Staying.fit-stays-fit (w .state) (w .status) (w .memory) h .acknowledge place
-step-fit w (clearFlags mask) h = clear-keeps-fit (w .state) (w .status) (length (w .memory)) mask h
-step-fit w status h = h
+step-fit : (w : World) (c : Call) → isUnfit w ≡ false → isUnfit (step w c .world) ≡ false
+step-fit w c h = step-cases w c (λ (o : Outcome (Answer c)). isUnfit (o .world) ≡ false) (λ n. h) (does-fit w c h)
 
 pub fit-after-any-calls : FitAfterAnyCalls
 fit-after-any-calls [] w h = h
-fit-after-any-calls (c ∷ cs) w h = fit-after-any-calls cs (step w c .1) (step-fit w c h)
+fit-after-any-calls (c ∷ cs) w h = fit-after-any-calls cs (step w c .world) (step-fit w c h)
