@@ -92,9 +92,18 @@ module _ (a : Received) where
     pub dropped-index : FateFits (receiveSays a) → indexOf m < 128
     dropped-index h = subst FateFits dropped-said h
 
-pub ruleset received =
-    (stored-said, stored-index, buffer-said, buffer-fits, lost-said, lost-index, dropped-said, dropped-index,
-    said-result, said-words)
+pub ruleset received = (
+  stored-said,
+  stored-index,
+  buffer-said,
+  buffer-fits,
+  lost-said,
+  lost-index,
+  dropped-said,
+  dropped-index,
+  said-result,
+  said-words,
+)
 
 -- ---- reads, requests, the choice
 

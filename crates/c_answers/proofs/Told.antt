@@ -17,9 +17,8 @@ use Rattle.layout.specs.Sections.{none}
 use Rattle.layout.specs.declared.sections.Section.{Section}
 use Rattle.starting.specs.Starting.{flat}
 use Rattle.choosing.specs.declared.asking.Chosen.{Chosen}
-use Rattle.c_words.specs.Words.{yesNo}
 use Rattle.c_words.specs.Frames.{packFrame}
-use Rattle.c_answers.specs.Answers.{startWords, readWords, chosenWords, eventWords}
+use Rattle.c_answers.specs.Answers.{startWords, readWords, chosenHead, chosenWords, eventWords}
 
 -- words put after others that were put in front
 splice-more : (l xs ys : List ℕ) → length xs + length ys ≤ length l
@@ -65,15 +64,13 @@ module _ (l m k ws : List ℕ) (room : length l ≡ 16) where
         ∙ ap (splice l 0) w) f refl (omega arith)
 
   -- three words, a frame, and one word more
-  pub chosen-told : (c : Chosen) (n : ℕ) (j : List ℕ) → ws ≡ packFrame (c .frame) → n ≡ yesNo (c .wish)
-      → j ≡ splice l 0 (c .buffer ∷ c .marker ∷ n ∷ []) → m ≡ splice j 3 ws → k ≡ splice m 10 (c .count ∷ [])
-      → k ≡ splice l 0 (chosenWords c)
+  pub chosen-told : (c : Chosen) (head j : List ℕ) → head ≡ chosenHead c → ws ≡ packFrame (c .frame)
+      → j ≡ splice l 0 head → m ≡ splice j 3 ws → k ≡ splice m 10 (c .count ∷ []) → k ≡ splice l 0 (chosenWords c)
   unfolding chosenWords packFrame
-  chosen-told c n j w x d e f =
-      let head = c .buffer ∷ c .marker ∷ yesNo (c .wish) ∷ [] in
-      put-more l m k (head ++ packFrame (c .frame)) (c .count ∷ []) 10
-      (put-more l j m head (packFrame (c .frame)) 3 (d
-      ∙ ap (λ (y : ℕ). splice l 0 (c .buffer ∷ c .marker ∷ y ∷ [])) x) (e ∙ ap (splice j 3) w) refl (omega arith))
+  chosen-told c head j x w d e f =
+      put-more l m k (chosenHead c ++ packFrame (c .frame)) (c .count ∷ []) 10
+      (put-more l j m (chosenHead c) (packFrame (c .frame)) 3 (d ∙ ap (splice l 0) x) (e ∙ ap (splice j 3) w) refl
+      (omega arith))
       f refl (omega arith)
 
 -- ---- two names, and the sections
@@ -98,6 +95,14 @@ pub seven-told : (ss : List Section) → length ss ≡ 7
 seven-told ss e =
     let next : (i : ℕ) → i < 7 → drop i ss ≡ at ss i ∷ drop (suc i) ss = λ i h. drop-cons ss i none (omega arith) in
     let whole : ss ≡ at ss 0 ∷ at ss 1 ∷ at ss 2 ∷ at ss 3 ∷ at ss 4 ∷ at ss 5 ∷ at ss 6 ∷ [] =
-    cc (next 0 (omega arith), next 1 (omega arith), next 2 (omega arith), next 3 (omega arith), next 4 (omega arith),
-    next 5 (omega arith), next 6 (omega arith), drop-of-length-le ss {i = 7} (omega arith)) in
+    cc (
+      next 0 (omega arith),
+      next 1 (omega arith),
+      next 2 (omega arith),
+      next 3 (omega arith),
+      next 4 (omega arith),
+      next 5 (omega arith),
+      next 6 (omega arith),
+      drop-of-length-le ss {i = 7} (omega arith),
+    ) in
     sym (ap flat whole)

@@ -60,8 +60,11 @@ abbrev pub bufferWords : ℕ → List ℕ
 bufferWords buffer = buffer ∷ []
 
 -- call 10: buffer, marker, event wish, the frame as sent, how many bytes were written; or 32 for nothing to send
+abbrev pub chosenHead : Chosen → List ℕ
+chosenHead c = c .buffer ∷ c .marker ∷ yesNo (c .wish) ∷ []
+
 unfoldable pub chosenWords : Chosen → List ℕ
-chosenWords c = (c .buffer ∷ c .marker ∷ yesNo (c .wish) ∷ []) ++ packFrame (c .frame) ++ (c .count ∷ [])
+chosenWords c = chosenHead c ++ packFrame (c .frame) ++ (c .count ∷ [])
 
 abbrev pub choiceWords : Next → List ℕ
 choiceWords none = 32 ∷ []

@@ -14,7 +14,8 @@ ghost use Rattle.words.specs.Runs.{splice};
 ghost use Rattle.requesting.specs.Requesting.{meaning as requestSays};
 ghost use Rattle.choosing.specs.Choosing.{meaning as choiceSays};
 ghost use Rattle.events.specs.Events.{meaning as eventSays};
-ghost use Rattle.c_answers.specs.Answers.{resultOf, toldIn, bufferWords, chosenWords, choiceWords, eventWords};
+ghost use Rattle.c_answers.specs.Answers.{resultOf, toldIn, bufferWords, chosenHead, chosenWords, choiceWords};
+ghost use Rattle.c_answers.specs.Answers.{eventWords};
 
 // The choice's buffer where nothing is to be sent.
 const NOTHING: u32 = 32;
@@ -40,13 +41,21 @@ pub fn tell_requested(answer: &mut [u32], a: Requested) -> u32
     }
 }
 
+// Buffer, marker and event wish.
+fn chosen_head(c: Chosen) -> [u32; 3]
+    ensures { λ ws. ⌜ ws ≡ chosenHead c ⌝ }
+{
+    [c.buffer, c.marker as u32, bit_of(c.wish)]
+}
+
 // The frame to send next.
 fn tell_chosen(answer: &mut [u32], c: Chosen) -> u32
     requires { ⌜ length (now answer) ≡ 16 ⌝ }
     ensures { λ n. ⌜ (n ≡ 0) × (now (answer .exit) ≡ splice (now (answer .entry)) 0 (chosenWords c)) ⌝ }
 {
+    let head = chosen_head(c);
     let packed = pack_frame(c.frame);
-    put(answer, 0, &[c.buffer, c.marker as u32, bit_of(c.wish)]);
+    put(answer, 0, &head);
     put(answer, 3, &packed);
     put(answer, 10, &[c.count]);
     0

@@ -130,4 +130,3 @@ module _ (state recorded mem answer out : List ℕ) where
     told-of s r x back y tells F stays says me after h =
         told back tells (F (worldOf L)) stays says me after
         (h ∙ ap₂ (λ (u : State) (v : Record). F (world u v mem)) x y)
-

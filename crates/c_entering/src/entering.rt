@@ -43,7 +43,13 @@ pub fn enter_registers(state: &[u32], recorded: &[u32], registers: &[u32], answe
 }
 
 // The same with a frame and an answer of so many words.
-pub fn enter_frame(state: &[u32], recorded: &[u32], frame: &[u32], answer: usize, words: bool) -> u32
+pub fn enter_frame(
+    state: &[u32],
+    recorded: &[u32],
+    frame: &[u32],
+    answer: usize,
+    words: bool,
+) -> u32
     ensures { λ n. ⌜ n ≡ entryNumber (now (state .entry)) (now (recorded .entry))
         (has (now (frame .entry)) 7 && eqb answer 16) (words && plainFrame (now (frame .entry))) ⌝ }
 {
