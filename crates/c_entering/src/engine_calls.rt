@@ -62,7 +62,8 @@ pub fn start(
     registers: &[u32],
     answer: &mut [u32],
 ) -> u32
-    ensures { λ n. ⌜ returned n (lent (now (state .exit)) (now (recorded .exit)) (now (mem .entry)) (now (answer .exit)) [])
+    ensures { λ n. ⌜ returned n
+        (lent (now (state .exit)) (now (recorded .exit)) (now (mem .entry)) (now (answer .exit)) [])
         ≡ startCall (lent (now (state .entry)) (now (recorded .entry)) (now (mem .entry)) (now (answer .entry)) [])
         (now (registers .entry)) ⌝ }
 {
@@ -96,7 +97,8 @@ pub fn clear_flags(state: &[u32], recorded: &mut [u32], mem: &[u32], mask: u32) 
 
 // Tells how the rings stand, and how many buffers are pending.
 pub fn status(state: &[u32], recorded: &[u32], mem: &[u32], answer: &mut [u32]) -> u32
-    ensures { λ n. ⌜ returned n (lent (now (state .entry)) (now (recorded .entry)) (now (mem .entry)) (now (answer .exit)) [])
+    ensures { λ n. ⌜ returned n
+        (lent (now (state .entry)) (now (recorded .entry)) (now (mem .entry)) (now (answer .exit)) [])
         ≡ statusCall (lent (now (state .entry)) (now (recorded .entry)) (now (mem .entry)) (now (answer .entry)) []) ⌝ }
 {
     let n = enter(state, recorded, answer.len() == ANSWER_WORDS, true);

@@ -20,7 +20,8 @@ ghost use mathlib.Core.Path.{_≡_};
 ghost use Prim.Native.Nat.{_+_, _*_, _^_, _≤_, _<_};
 ghost use lib.ListN.{length};
 ghost use Rattle.c_words.specs.Needs.{StateWords, BoxWords};
-ghost use Rattle.c_words.specs.States.{plainRegisters, unpackRegisters, unpackRing, unpackState, packState, ComesBack};
+ghost use Rattle.c_words.specs.States.{plainRegisters, unpackRegisters, unpackRing, unpackState, packState};
+ghost use Rattle.c_words.specs.States.{ComesBack};
 ghost use Rattle.c_words.specs.States.{unpackRecord, packRecord};
 
 pub const STATE_WORDS: usize = 27;
