@@ -19,7 +19,8 @@ pub fn read_event(
     place: u32,
     answer: &mut [u32],
 ) -> u32
-    ensures { λ n. ⌜ returned n (lent (now (state .entry)) (now (recorded .entry)) (now (mem .entry)) (now (answer .exit)) [])
+    ensures { λ n. ⌜ returned n
+        (lent (now (state .entry)) (now (recorded .entry)) (now (mem .entry)) (now (answer .exit)) [])
         ≡ readEventCall (lent (now (state .entry)) (now (recorded .entry)) (now (mem .entry)) (now (answer .entry)) [])
         place ⌝ }
 {

@@ -39,7 +39,8 @@ pub fn request_dedicated(
     wish: u32,
     answer: &mut [u32],
 ) -> u32
-    ensures { λ n. ⌜ returned n (lent (now (state .exit)) (now (recorded .entry)) (now (mem .exit)) (now (answer .exit)) [])
+    ensures { λ n. ⌜ returned n
+        (lent (now (state .exit)) (now (recorded .entry)) (now (mem .exit)) (now (answer .exit)) [])
         ≡ requestDedicatedCall
         (lent (now (state .entry)) (now (recorded .entry)) (now (mem .entry)) (now (answer .entry)) [])
         buffer (now (frame .entry)) (now (bytes .entry)) marker wish ⌝ }
@@ -66,7 +67,8 @@ pub fn request_shared(
     wish: u32,
     answer: &mut [u32],
 ) -> u32
-    ensures { λ n. ⌜ returned n (lent (now (state .exit)) (now (recorded .entry)) (now (mem .exit)) (now (answer .exit)) [])
+    ensures { λ n. ⌜ returned n
+        (lent (now (state .exit)) (now (recorded .entry)) (now (mem .exit)) (now (answer .exit)) [])
         ≡ requestSharedCall
         (lent (now (state .entry)) (now (recorded .entry)) (now (mem .entry)) (now (answer .entry)) [])
         (now (frame .entry)) (now (bytes .entry)) marker wish ⌝ }
