@@ -30,8 +30,8 @@ use Rattle.handler.specs.Rows.{rows}
 use Rattle.handler.proofs.Exact.{does, step-cases}
 
 does-fit : (w : World) (c : Call) → isUnfit w ≡ false → first (rows w c) ≡ allowed → isUnfit (does w c .world) ≡ false
-unfolding rows outputRefusals fifoRefusals bufferRefusals receiveRefusals dedicatedRefusals sharedRefusals cancelRefusals
-    choiceRefusals reportRefusals eventRefusals overviewRefusals
+unfolding rows outputRefusals fifoRefusals bufferRefusals receiveRefusals dedicatedRefusals sharedRefusals
+    cancelRefusals choiceRefusals reportRefusals eventRefusals overviewRefusals
     reads chooses
 does-fit w (start g) h e = empty-is-fit g (length (w .memory)) (sym (start-ruled g (length (w .memory))) ∙ e)
 does-fit w (receive f d time) h e = receive-fit w f d time e
@@ -39,7 +39,7 @@ does-fit w (readFifo fifo place out) h e = h
 does-fit w (acknowledgeFifo fifo place) h e = acknowledge-fit w fifo place e
 does-fit w (readBuffer buffer out) h e = h
 does-fit w (releaseBuffer buffer) h e = release-fit w buffer e
-does-fit w (requestDedicated buffer q d) h e = dedicated-fit w q d buffer e
+does-fit w (requestDedicated buffer q d) h e = dedicated-fit w buffer q d e
 does-fit w (requestShared q d) h e = shared-fit w q d e
 does-fit w (cancel buffer) h e = cancel-fit w buffer e
 does-fit w (askChoice passive out) h e = h
