@@ -2,7 +2,7 @@
 -- Assumes nothing.
 use Prim.Native.Nat.{ℕ, _+_, _^_, _≤_, _<_}
 use mathlib.Core.Path.{_≡_, refl, sym, ap, _∙_, subst}
-use mathlib.Core.Bool.{Bool, true, false, true≢false, not}
+use mathlib.Core.Bool.{Bool, true, false, not}
 use mathlib.Core.List.{List}
 use native.Mathlib.Omega.{arith}
 use lib.ListN.{length}
@@ -22,7 +22,7 @@ use Rattle.element.proofs.RoundTrip.{tx-back}
 use Rattle.element.proofs.Storing.{element-length}
 use Rattle.layout.specs.Legal.{Legal}
 use Rattle.layout.specs.Sections.{memoryWords}
-use Rattle.places.specs.Areas.{areaRange, areaEnd, placeIn, Roomy}
+use Rattle.places.specs.Areas.{areaRange, areaEnd, placeIn}
 use Rattle.places.specs.declared.Area.{Area}
 use Rattle.areas.specs.Areas.{txArea, dataWords}
 use Rattle.areas.proofs.Rooms.{tx-roomy}
@@ -33,7 +33,7 @@ use Rattle.engine.specs.declared.state.State.{State}
 use Rattle.engine.proofs.Cases.{queue-ring, fifo-ring}
 use Rattle.engine.proofs.Sounds.{sound-of}
 use Rattle.books.specs.Balance.{RequestsBalanced}
-use Rattle.books.specs.Lists.{those, others, Each}
+use Rattle.books.specs.Lists.{others}
 use Rattle.books.specs.Pending.{CircleAgrees}
 use Rattle.books.specs.Requests.{Accepted, isBuffer, acceptedIn, noteRequest, hasPending}
 use Rattle.books.proofs.Buffers.{none-pending, buffers-elsewhere, buffer-filled, buffer-cleared}
@@ -67,7 +67,8 @@ start-agrees g s mem p e = record {
 pub elsewhere-agrees : ElsewhereAgrees
 elsewhere-agrees g l s mem h room next other p e same = record {
   buffers =
-      rw p (buffers-elsewhere Request (txArea g) (elementOf g) (l .pending) (s .pending) mem (h .buffers) room other same);
+      rw p
+      (buffers-elsewhere Request (txArea g) (elementOf g) (l .pending) (s .pending) mem (h .buffers) room other same);
   sendable = h .sendable;
   fifo = λ f. rw e (h .fifo f);
   queue = λ f. e ∙ h .queue f;

@@ -7,12 +7,11 @@ use mathlib.Core.List.{List, [], _∷_}
 use native.Mathlib.Omega.{arith}
 use lib.Dec.{ltb, leb}
 use lib.ListN.{length}
-use borrow.Author.Tests.{eqb-false, leb-false, lt-leb, not-true}
+use borrow.Author.Tests.{eqb-false, leb-false, not-true}
 use Rattle.words.specs.Bits.{bit, isSet, withBit, withoutBit}
 use Rattle.words.specs.Choice.{pick}
 use Rattle.words.specs.Least.{leastFrom}
 use Rattle.words.specs.Rules.{first}
-use Rattle.words.specs.Runs.{splice}
 use Rattle.words.proofs.Bits.{bit-lt}
 use Rattle.words.proofs.Choices.{pick-first, pick-second}
 use Rattle.words.proofs.Lowest.{least-passes, least-same}
@@ -25,19 +24,19 @@ use Rattle.frame.specs.Malformed.{malformed}
 use Rattle.frame.proofs.Forms.{well-formed}
 use Rattle.registers.specs.Fields.{dedicated, shared, txCount, isQueue}
 use Rattle.element.specs.declared.TxHeader.{TxHeader}
-use Rattle.places.specs.Areas.{areaRange, placeIn}
+use Rattle.places.specs.Areas.{areaRange}
 use Rattle.places.proofs.Stores.{store-kept}
 use Rattle.areas.specs.Areas.{txArea}
-use Rattle.shape.specs.Calls.{done, answers}
+use Rattle.shape.specs.Calls.{answers}
 use Rattle.shape.specs.Histories.{noted}
 use Rattle.shape.specs.Refusals.{Refusals}
 use Rattle.shape.proofs.Calls.{call-cases}
 use Rattle.engine.specs.Buffers.{noTxBuffer, isPending, inSharedFifo}
-use Rattle.engine.specs.Calls.{World, Outcome, Effect, _when_, isUnfit}
+use Rattle.engine.specs.Calls.{World, Outcome, _when_, isUnfit}
 use Rattle.engine.specs.declared.state.State.{State}
 use Rattle.requesting.specs.Places.{requested, freePlace, freeBuffer, sharedAfter}
 use Rattle.requesting.specs.Requesting.{written, requests, dedicatedRefusals, sharedRefusals}
-use Rattle.requesting.specs.Cancelling.{cancelledState, cancels, cancelRefusals}
+use Rattle.requesting.specs.Cancelling.{cancels, cancelRefusals}
 use Rattle.requesting.proofs.Opens.{dedicated-open, shared-open, cancel-open}
 use Rattle.requesting.proofs.Places.{free-queue, free-room}
 use Rattle.books.specs.Lists.{tally}
@@ -45,8 +44,8 @@ use Rattle.books.specs.Pending.{CircleAgrees}
 use Rattle.books.specs.Requests.{isShared, noteRequest, noteCancel, hasPending}
 use Rattle.books.proofs.Circles.{requested-before, requested-next, cancelled-before, circle-filled, circle-held}
 use Rattle.books.proofs.Requests.{cancel-balances}
-use Rattle.requests.specs.Requests.{Request, asked, Typed, Sendable, Book}
-use Rattle.requests.specs.Expected.{expectDedicated, freeShared, expectShared, inFifo, expectCancel}
+use Rattle.requests.specs.Requests.{Request, asked, Typed, Book}
+use Rattle.requests.specs.Expected.{expectDedicated, freeShared, expectShared, expectCancel}
 use Rattle.requests.specs.Standing.{elementOf, TxAgrees, InStep, LeavesTx}
 use Rattle.requests.specs.Promises.{DedicatedTold, DedicatedLeaves, SharedTold, SharedLeaves}
 use Rattle.requests.specs.Promises.{CancelTold, CancelLeaves}
@@ -108,7 +107,8 @@ dedicated-leaves l w i buffer h d typed =
     let g = s .regs in
     let o = dedicated-open w buffer h (length d) e in
     put-leaves l w i buffer (omega (arith, o .number)) (o .free) h d typed (o .formed) (s .shared)
-    (λ f. requested-before Request (dedicated g) (shared g) l (s .shared) (i .agrees .fifo f) (asked h d) buffer (o .number))
+    (λ f.
+    requested-before Request (dedicated g) (shared g) l (s .shared) (i .agrees .fifo f) (asked h d) buffer (o .number))
     (i .agrees .queue))
 
 -- ---- shared
@@ -205,7 +205,8 @@ shared-leaves l w i h d typed =
 pub cancel-told : CancelTold
 unfolding cancelRefusals expectCancel
 cancel-told l w i buffer =
-    told-by w [] (cancels w buffer) tt [] (isUnfit w) (after (isPending (w .state) buffer)) (after (hasPending l buffer))
+    told-by w [] (cancels w buffer) tt [] (isUnfit w) (after (isPending (w .state) buffer))
+    (after (hasPending l buffer))
     (i .fit)
     (ap (λ (t : Bool). first (after t)) (sym (is-pending (w .state .regs) l (w .state) (w .memory) (i .agrees) buffer)))
     (λ e. refl)
@@ -226,7 +227,8 @@ cancel-leaves l w i buffer =
       left = record {
         agrees =
             cleared-agrees g l s (w .memory) (i .agrees) (few-in l w i) buffer (o .number) (noteCancel l buffer) refl
-            (cancel-balances Request l (i .agrees .balanced) buffer) (s .shared) (s .sent) (withBit (s .cancelled) buffer)
+            (cancel-balances Request l (i .agrees .balanced) buffer) (s .shared) (s .sent)
+            (withBit (s .cancelled) buffer)
             (λ f. cancelled-before Request (dedicated g) (shared g) l (s .shared) (i .agrees .fifo f) buffer
             (before (leb (dedicated g) buffer) refl (isQueue g) (o .apart) f))
             (i .agrees .queue);

@@ -2,12 +2,12 @@
 -- said otherwise.
 -- Assumes nothing.
 use Prim.Native.Nat.{ℕ}
-use mathlib.Core.Path.{_≡_, refl, sym, ap, _∙_}
+use mathlib.Core.Path.{_≡_, refl, ap, _∙_}
 use mathlib.Core.Bool.{Bool, false}
 use mathlib.Core.List.{List, _∷_}
 use Rattle.words.specs.Rules.{Ruling, allowed, refused, first, settle}
 use Rattle.shape.specs.Calls.{refuses, answers, outcome, Effect, effect, effected, call}
-use Rattle.shape.specs.Histories.{Told, told}
+use Rattle.shape.specs.Histories.{told}
 use Rattle.shape.specs.Refusals.{Refusal, Refusals}
 use Rattle.engine.specs.Calls.{_when_}
 use Rattle.engine.proofs.Calls.{row-passes}
