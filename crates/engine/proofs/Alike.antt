@@ -43,7 +43,8 @@ module _ (l m : List ℕ) (at : ℕ) (ws : List ℕ) (a : at + length ws ≤ len
           splice-after m at ws b k h ∙ e ∙ sym (splice-after l at ws a k h)
 
 pub store-alike : (g : Registers) (sections : Range) (mem other : List ℕ) → SameSections g sections mem other
-    → (at : ℕ) (ws : List ℕ) → at + length ws ≤ length mem → SameSections g sections (splice mem at ws) (splice other at ws)
+    → (at : ℕ) (ws : List ℕ) → at + length ws ≤ length mem
+    → SameSections g sections (splice mem at ws) (splice other at ws)
 store-alike g sections mem other same at ws here =
     let there : at + length ws ≤ length other = omega (arith, same .size) in
     record {
@@ -60,14 +61,15 @@ module _ {A : Type 0} (sections : Range) (w : World) (other out : List ℕ)
       → Alike sections (call w out rows d) (call (withMemory w other) out more e)
   unfolding call
   call-alike rows more d e p through =
-      subst
-      (λ (v : Ruling Told). Alike sections (settle (first rows) (effected d) (left w)) (settle v (effected e) (left (withMemory w other))))
-      (sym p) (go (first rows) refl)
+      subst (λ (v : Ruling Told). Alike sections (settle (first rows) (effected d) (left w)) (there v)) (sym p)
+      (go (first rows) refl)
     where
       left : World → Told → Outcome A
       left v n = outcome (refuses n) v out
 
-      go : (v : Ruling Told) → first rows ≡ v
-          → Alike sections (settle v (effected d) (left w)) (settle v (effected e) (left (withMemory w other)))
+      there : Ruling Told → Outcome A
+      there v = settle v (effected e) (left (withMemory w other))
+
+      go : (v : Ruling Told) → first rows ≡ v → Alike sections (settle v (effected d) (left w)) (there v)
       go allowed q = through q
       go (refused n) q = record { says = refl; state = refl; recorded = refl; memory = same; output = refl }

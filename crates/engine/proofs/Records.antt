@@ -34,7 +34,9 @@ pub raised-sound : (r : Record) (flag : ℕ) → inField flagFields flag ≡ tru
 unfolding raised
 raised-sound r flag e h k n =
     set-other (r .flags) flag k
-    (λ z. let y : true ≡ false = sym e ∙ sym (ap (inField flagFields) z) ∙ n in let x : _≡_ {A = ℕ} 0 1 = cc in omega arith)
+    (λ z. let y : true ≡ false = sym e ∙ sym (ap (inField flagFields) z) ∙ n in
+    let x : _≡_ {A = ℕ} 0 1 = cc in
+    omega arith)
     ∙ h k n
 
 -- one of two records

@@ -1,16 +1,2 @@
-pub mod Settled
 pub mod Exact
 pub mod Meanings
-pub mod Unchanged
-pub mod StillFit
-pub mod Ties
-pub mod Others
-pub mod Parts
-pub mod OnlyNamed
-pub mod Tightness
-pub mod Stars
-pub mod Demand2Layouts
-pub mod Demand2Choice
-pub mod Demand2Frames
-pub mod Demand2Memory
-pub mod Demand2

@@ -1,26 +1,29 @@
--- The fifteen calls: what each is given, and what it tells.
+-- The fifteen calls: what each is given, what it tells, and its definition.
 use Prim.Native.Nat.{ℕ}
-use mathlib.Core.Bool.{Bool}
-use mathlib.Core.List.{List}
-use Rattle.words.specs.Rules.{Ruling, allowed, refused}
+use mathlib.Core.Bool.{Bool, false}
+use mathlib.Core.List.{List, []}
+use lib.ListN.{length}
 use Rattle.registers.specs.declared.Registers.{Registers}
 use Rattle.frame.specs.declared.Frame.{Frame}
+use Rattle.element.specs.declared.RxRead.{RxRead}
+use Rattle.element.specs.declared.TxHeader.{TxHeader}
 use Rattle.element.specs.declared.EventHeader.{EventHeader}
-use Rattle.layout.specs.Verdict.{Refusal}
-use Rattle.layout.specs.declared.sections.Section.{Section}
-use Rattle.engine.specs.Answers.{Says, refuses, answers}
-use Rattle.engine.specs.declared.state.State.{State}
-use Rattle.engine.specs.declared.state.Record.{Record}
-use Rattle.engine.specs.declared.overview.Overview.{Overview}
+use Rattle.engine.specs.Calls.{World, Outcome}
+use Rattle.engine.specs.States.{neverStarted}
+use Rattle.starting.specs.Starting
+use Rattle.starting.specs.Starting.{unreported}
+use Rattle.receiving.specs.Receive
 use Rattle.receiving.specs.Receive.{Fate}
-use Rattle.taking.specs.Reading.{ReadOutcome}
-use Rattle.choosing.specs.Choosing.{ChoiceOutcome}
-
--- state and record of an engine, and the memory that it is lent
-pub record World : Type 0 where
-  pub state : State
-  pub status : Record
-  pub memory : List ℕ
+use Rattle.taking.specs.Reading
+use Rattle.taking.specs.Releasing
+use Rattle.requesting.specs.Requesting
+use Rattle.requesting.specs.Cancelling
+use Rattle.choosing.specs.Choosing
+use Rattle.choosing.specs.Choosing.{Next}
+use Rattle.reporting.specs.Reporting
+use Rattle.events.specs.Events
+use Rattle.overview.specs.Overview
+use Rattle.overview.specs.declared.Overview.{Overview as Told}
 
 -- a call with all that it is given beside the world; a lent output is given by its bytes
 pub data Call : Type 0 where
@@ -36,10 +39,10 @@ pub data Call : Type 0 where
   readBuffer : ℕ → List ℕ → Call
   -- 6: buffer
   releaseBuffer : ℕ → Call
-  -- 7: buffer, frame, data, marker, event wish
-  requestDedicated : ℕ → Frame → List ℕ → ℕ → Bool → Call
-  -- 8: frame, data, marker, event wish
-  requestShared : Frame → List ℕ → ℕ → Bool → Call
+  -- 7: buffer, request (frame, marker and event wish), its data
+  requestDedicated : ℕ → TxHeader → List ℕ → Call
+  -- 8: request, its data
+  requestShared : TxHeader → List ℕ → Call
   -- 9: buffer
   cancel : ℕ → Call
   -- 10: error passive, lent output
@@ -53,53 +56,86 @@ pub data Call : Type 0 where
   -- 14: mask
   clearFlags : ℕ → Call
   -- 15
-  status : Call
+  reportStatus : Call
 
--- a start's verdict, and the sections that it reports
-pub record StartAnswer : Type 0 where
-  pub says : Ruling Refusal
-  pub sections : List Section
+-- the same, with the call's number and a name for each thing; what a call is not given is 0 or empty. A start's output is what it reports: no sections yet
+pub record Given : Type 0 where
+  pub call : ℕ
+  pub registers : Registers
+  pub frame : Frame
+  pub bytes : ℕ
+  pub fifo : ℕ
+  pub place : ℕ
+  pub buffer : ℕ
+  pub output : List ℕ
 
--- what each call tells; of a call with a lent output that is the output after it too
+abbrev pub gives : ℕ → Registers → Frame → ℕ → ℕ → ℕ → ℕ → List ℕ → Given
+gives call registers frame bytes fifo place buffer output = record {
+  call = call;
+  registers = registers;
+  frame = frame;
+  bytes = bytes;
+  fifo = fifo;
+  place = place;
+  buffer = buffer;
+  output = output;
+}
+
+abbrev pub noRegisters : Registers
+noRegisters = neverStarted .regs
+
+abbrev pub noFrame : Frame
+noFrame = record { id = 0; xtd = false; rtr = false; fdf = false; brs = false; esi = false; dlc = 0 }
+
+abbrev pub given : Call → Given
+given (start g) = gives 1 g noFrame 0 0 0 0 unreported
+given (receive f d time) = gives 2 noRegisters f (length d) 0 0 0 []
+given (readFifo fifo place out) = gives 3 noRegisters noFrame 0 fifo place 0 out
+given (acknowledgeFifo fifo place) = gives 4 noRegisters noFrame 0 fifo place 0 []
+given (readBuffer buffer out) = gives 5 noRegisters noFrame 0 0 0 buffer out
+given (releaseBuffer buffer) = gives 6 noRegisters noFrame 0 0 0 buffer []
+given (requestDedicated buffer h d) = gives 7 noRegisters (h .frame) (length d) 0 0 buffer []
+given (requestShared h d) = gives 8 noRegisters (h .frame) (length d) 0 0 0 []
+given (cancel buffer) = gives 9 noRegisters noFrame 0 0 0 buffer []
+given (askChoice passive out) = gives 10 noRegisters noFrame 0 0 0 0 out
+given (reportSent buffer passive time) = gives 11 noRegisters noFrame 0 0 0 buffer []
+given (readEvent place) = gives 12 noRegisters noFrame 0 0 place 0 []
+given (acknowledgeEvent place) = gives 13 noRegisters noFrame 0 0 place 0 []
+given (clearFlags mask) = gives 14 noRegisters noFrame 0 0 0 0 []
+given reportStatus = gives 15 noRegisters noFrame 0 0 0 0 []
+
+-- what a call tells
 abbrev pub Answer : Call → Type 0
-Answer (start g) = StartAnswer
-Answer (receive f d time) = Says Fate
-Answer (readFifo fifo place out) = ReadOutcome
-Answer (acknowledgeFifo fifo place) = Says (Unit {0})
-Answer (readBuffer buffer out) = ReadOutcome
-Answer (releaseBuffer buffer) = Says (Unit {0})
-Answer (requestDedicated buffer f d marker wish) = Says ℕ
-Answer (requestShared f d marker wish) = Says ℕ
-Answer (cancel buffer) = Says (Unit {0})
-Answer (askChoice passive out) = ChoiceOutcome
-Answer (reportSent buffer passive time) = Says (Unit {0})
-Answer (readEvent place) = Says EventHeader
-Answer (acknowledgeEvent place) = Says (Unit {0})
-Answer (clearFlags mask) = Says (Unit {0})
-Answer status = Says Overview
+Answer (start g) = Unit {0}
+Answer (receive f d time) = Fate
+Answer (readFifo fifo place out) = RxRead
+Answer (acknowledgeFifo fifo place) = Unit {0}
+Answer (readBuffer buffer out) = RxRead
+Answer (releaseBuffer buffer) = Unit {0}
+Answer (requestDedicated buffer h d) = ℕ
+Answer (requestShared h d) = ℕ
+Answer (cancel buffer) = Unit {0}
+Answer (askChoice passive out) = Next
+Answer (reportSent buffer passive time) = Unit {0}
+Answer (readEvent place) = EventHeader
+Answer (acknowledgeEvent place) = Unit {0}
+Answer (clearFlags mask) = Unit {0}
+Answer reportStatus = Told
 
--- the number of a refusal, if it is one
-abbrev pub ruled : {A : Type 0} → Says A → Ruling ℕ
-ruled (refuses n) = refused n
-ruled (answers a) = allowed
-
-abbrev pub startRuled : Ruling Refusal → Ruling ℕ
-startRuled allowed = allowed
-startRuled (refused n) = refused (n .number)
-
-abbrev pub refusal : (c : Call) → Answer c → Ruling ℕ
-refusal (start g) a = startRuled (a .says)
-refusal (receive f d time) a = ruled a
-refusal (readFifo fifo place out) a = ruled (a .says)
-refusal (acknowledgeFifo fifo place) a = ruled a
-refusal (readBuffer buffer out) a = ruled (a .says)
-refusal (releaseBuffer buffer) a = ruled a
-refusal (requestDedicated buffer f d marker wish) a = ruled a
-refusal (requestShared f d marker wish) a = ruled a
-refusal (cancel buffer) a = ruled a
-refusal (askChoice passive out) a = ruled (a .says)
-refusal (reportSent buffer passive time) a = ruled a
-refusal (readEvent place) a = ruled a
-refusal (acknowledgeEvent place) a = ruled a
-refusal (clearFlags mask) a = ruled a
-refusal status a = ruled a
+-- the definition of each
+abbrev pub step : World → (c : Call) → Outcome (Answer c)
+step w (start g) = Starting.start w g
+step w (receive f d time) = Receive.receive w f d time
+step w (readFifo fifo place out) = Reading.readFifo w fifo place out
+step w (acknowledgeFifo fifo place) = Releasing.acknowledgeFifo w fifo place
+step w (readBuffer buffer out) = Reading.readBuffer w buffer out
+step w (releaseBuffer buffer) = Releasing.releaseBuffer w buffer
+step w (requestDedicated buffer h d) = Requesting.requestDedicated w buffer h d
+step w (requestShared h d) = Requesting.requestShared w h d
+step w (cancel buffer) = Cancelling.cancel w buffer
+step w (askChoice passive out) = Choosing.askChoice w passive out
+step w (reportSent buffer passive time) = Reporting.reportSent w buffer passive time
+step w (readEvent place) = Events.readEvent w place
+step w (acknowledgeEvent place) = Events.acknowledgeEvent w place
+step w (clearFlags mask) = Overview.clearFlags w mask
+step w reportStatus = Overview.reportStatus w

@@ -1,9 +1,5 @@
 pub mod Calls
-pub mod Steps
 pub mod Rows
+pub mod Changes
+pub mod Claims
 pub mod Demand1
-pub mod Ties
-pub mod Named
-pub mod Tightness
-pub mod Stars
-pub mod Demand2

@@ -2,7 +2,6 @@
 -- Assumes nothing.
 use Prim.Native.Nat.{ℕ, zero, suc, _+_, _≤_, _<_}
 use mathlib.Core.Path.{_≡_, refl}
-use mathlib.Core.Bool.{Bool}
 use mathlib.Core.List.{List}
 use native.Mathlib.Omega.{arith}
 use lib.ListN.{length}
@@ -11,7 +10,7 @@ use Rattle.words.specs.Rules.{allowed, first}
 use Rattle.words.specs.Runs.{splice}
 use Rattle.words.proofs.Ranges.{only-none}
 use Rattle.shape.specs.Calls.{answers}
-use Rattle.places.specs.Areas.{areaRange, placeIn, placeRange, wordsAt, Roomy}
+use Rattle.places.specs.Areas.{placeIn, placeRange, wordsAt, Roomy}
 use Rattle.places.specs.Slots.{slotMemory}
 use Rattle.places.specs.declared.Area.{Area}
 use Rattle.places.specs.declared.Slot.{Slot}
@@ -35,13 +34,14 @@ use Rattle.areas.proofs.Sections.{areas-are-sections}
 use Rattle.engine.specs.Calls.{World, Outcome, Effect}
 use Rattle.engine.specs.Keeping.{keepRule}
 use Rattle.engine.specs.States.{fifoRing}
-use Rattle.engine.proofs.Keeps.{kept-within}
-use Rattle.engine.proofs.Sounds.{ring-fits}
 use Rattle.receiving.specs.Fifos.{keeperOf}
-use Rattle.receiving.specs.Promises.{storedIn, namedBy, OneElement, ReceiveWritesOneElement, HoldsFrame, StoredIsThere}
-use Rattle.receiving.specs.Receive.{Fate, arrival, slotSays, receiveRefusals, intoFifo, intoBuffer, intoNothing, receives}
+use Rattle.receiving.specs.Promises.{storedIn, namedBy, OneElement, ReceiveWritesOneElement}
+use Rattle.receiving.specs.Promises.{HoldsFrame, StoredIsThere}
+use Rattle.receiving.specs.Receive.{Fate, arrival, slotSays, receiveRefusals}
+use Rattle.receiving.specs.Receive.{intoFifo, intoBuffer, intoNothing, receives}
 use Rattle.receiving.proofs.Judgements.{ReceiveOpen, receive-open}
 use Rattle.receiving.proofs.Outcomes.{receives-cases, receive-cases}
+use Rattle.receiving.proofs.Stores.{slot-within}
 
 -- ---- at a place of an area
 
@@ -52,10 +52,12 @@ arrival-length a d area h = omega (arith, element-length (word0 (a .frame)) (rxW
 
 -- what stands at a place is what an element's read goes by
 pub held-there : (mem : List ℕ) (a : Arrival) (d : List ℕ) (area : Area) (place : ℕ) → 2 ≤ area .each
-    → wordsAt area place mem ≡ rxElement a d (dataWords area) → Holds mem (placeIn area place) (rxElement a d (dataWords area))
+    → wordsAt area place mem ≡ rxElement a d (dataWords area)
+    → Holds mem (placeIn area place) (rxElement a d (dataWords area))
 held-there mem a d area place h e = rw (arrival-length a d area h) e
 
-module _ (mem : List ℕ) (area : Area) (room : Roomy area (length mem)) (place : ℕ) (within : place < area .count) (a : Arrival) (d : List ℕ) where
+module _ (mem : List ℕ) (area : Area) (room : Roomy area (length mem)) (place : ℕ) (within : place < area .count)
+    (a : Arrival) (d : List ℕ) where
   abbrev after : List ℕ
   after = splice mem (placeIn area place) (rxElement a d (dataWords area))
 
@@ -72,7 +74,8 @@ module _ (g : Registers) where
       areas-are-sections g i k l .0
       (record { from = omega (arith, x .from); below = omega (arith, x .below, element-inside (own g i) place h) })
 
-  fifo-has : (fifo place k : ℕ) → fifo ≤ 1 → place < fifoSize g fifo → Inside (placeRange (fifoArea g fifo) place) k → Has g (2 + fifo) k
+  fifo-has : (fifo place k : ℕ) → fifo ≤ 1 → place < fifoSize g fifo → Inside (placeRange (fifoArea g fifo) place) k
+      → Has g (2 + fifo) k
   fifo-has zero place k l h x = place-has 0 place k (omega arith) h x
   fifo-has (suc zero) place k l h x = place-has 1 place k (omega arith) h x
   fifo-has (suc (suc n)) place k l h x = absurd (omega arith)
@@ -86,21 +89,19 @@ none-written g mem = record { only = only-none (front 0) mem; own = λ k x. absu
 
 -- ---- by a receive
 
-module _ (w : World) (f : Frame) (d : List ℕ) (time : ℕ) (free : ReceiveOpen w f (length d)) where
+module _ (w : World) (f : Frame) (d : List ℕ) (time : ℕ) (passed : ReceiveOpen w f (length d)) where
   abbrev g : Registers
   g = w .state .regs
 
-  -- a slot's place is one of the FIFO's
-  pub slot-within : (k : ℕ) → k ≤ 1 → (p : ℕ) → keepRule (keeperOf g k) (fifoRing (w .state) k) (w .recorded) .slot ≡ At p → p < fifoSize g k
-  slot-within k l =
-      kept-within (keeperOf g k) (fifoRing (w .state) k) (w .recorded)
-      (record { ring = ring-fits (w .state) (length (w .memory)) k (free .sound); flags = omega arith })
+  within : (k : ℕ) → k ≤ 1 → (p : ℕ)
+      → keepRule (keeperOf g k) (fifoRing (w .state) k) (w .recorded) .slot ≡ At p → p < fifoSize g k
+  within k l = slot-within (w .state) (length (w .memory)) k (w .recorded) (passed .sound) l
 
   fifo-room : (k : ℕ) → Roomy (fifoArea g k) (length (w .memory))
-  fifo-room k = fifo-roomy g (length (w .memory)) (free .sound .legal) k
+  fifo-room k = fifo-roomy g (length (w .memory)) (passed .sound .legal) k
 
   buffer-room : Roomy (bufferArea g) (length (w .memory))
-  buffer-room = buffer-roomy g (length (w .memory)) (free .sound .legal)
+  buffer-room = buffer-roomy g (length (w .memory)) (passed .sound .legal)
 
   -- what is to be shown of the effect
   abbrev There : Effect Fate → Type 0
@@ -109,36 +110,37 @@ module _ (w : World) (f : Frame) (d : List ℕ) (time : ℕ) (free : ReceiveOpen
   abbrev One : Effect Fate → Type 0
   One e = OneElement g (storedIn g (e .answer)) (w .memory) (e .world .memory)
 
-  module _ (k : ℕ) (l : k ≤ 1) (a : Arrival) where
+  -- in a slot of FIFO 0 or 1
+  module _ (k : ℕ) (m : Matched) where
     abbrev after-slot : Slot → List ℕ
-    after-slot x = slotMemory (w .memory) (fifoArea g k) (rxElement a d (dataWords (fifoArea g k))) x
+    after-slot x = slotMemory (w .memory) (fifoArea g k) (rxElement (arrival f time m) d (dataWords (fifoArea g k))) x
 
-    slot-one : (m : Matched) (x : Slot) → ((p : ℕ) → x ≡ At p → p < fifoSize g k)
+    slot-there : (x : Slot) → ((p : ℕ) → x ≡ At p → p < fifoSize g k)
+        → HoldsFrame g f d time (after-slot x) (answers (slotSays k m x))
+    slot-there (At p) h = arrival-there (w .memory) (fifoArea g k) (fifo-room k) p (h p refl) (arrival f time m) d
+    slot-there Lost h = tt
+
+    slot-one : k ≤ 1 → (x : Slot) → ((p : ℕ) → x ≡ At p → p < fifoSize g k)
         → OneElement g (storedIn g (slotSays k m x)) (w .memory) (after-slot x)
-    slot-one m (At p) h = record {
-      only = arrival-only (w .memory) (fifoArea g k) (fifo-room k) p (h p refl) a d;
+    slot-one l (At p) h = record {
+      only = arrival-only (w .memory) (fifoArea g k) (fifo-room k) p (h p refl) (arrival f time m) d;
       own = λ n x. (2 + k, omega arith, omega arith, fifo-has g k p n l (h p refl) x);
     }
-    slot-one m Lost h = none-written g (w .memory)
-
-  slot-there : (k : ℕ) (m : Matched) (x : Slot) → ((p : ℕ) → x ≡ At p → p < fifoSize g k)
-      → HoldsFrame g f d time (slotMemory (w .memory) (fifoArea g k) (rxElement (arrival f time m) d (dataWords (fifoArea g k))) x) (answers (slotSays k m x))
-  slot-there k m (At p) h = arrival-there (w .memory) (fifoArea g k) (fifo-room k) p (h p refl) (arrival f time m) d
-  slot-there k m Lost h = tt
+    slot-one l Lost h = none-written g (w .memory)
 
   effect-there : There (receives w f d time)
   unfolding intoFifo intoBuffer intoNothing
   effect-there =
-      receives-cases w f d time free There
-      (λ k priority m l x. slot-there k m _ (slot-within k l))
+      receives-cases w f d time passed There
+      (λ k priority m l x. slot-there k m _ (within k l))
       (λ b i l z x. arrival-there (w .memory) (bufferArea g) buffer-room b l _ d)
       (λ why m x. tt)
 
   effect-one : One (receives w f d time)
   unfolding intoFifo intoBuffer intoNothing
   effect-one =
-      receives-cases w f d time free One
-      (λ k priority m l x. slot-one k l _ m _ (slot-within k l))
+      receives-cases w f d time passed One
+      (λ k priority m l x. slot-one k m l _ (within k l))
       (λ b i l z x. record {
         only = arrival-only (w .memory) (bufferArea g) buffer-room b l _ d;
         own = λ n y. (4, omega arith, omega arith, buffer-has g b n l y);
@@ -153,7 +155,7 @@ stored-is-there w f d time =
 pub receive-writes-one-element : ReceiveWritesOneElement
 receive-writes-one-element w f d time =
     receive-cases w f d time
-    (λ (o : Outcome Fate). OneElement (w .state .regs) (namedBy (w .state .regs) (o .says)) (w .memory) (o .world .memory))
+    (λ (o : Outcome Fate). let g = w .state .regs in OneElement g (namedBy g (o .says)) (w .memory) (o .world .memory))
     (λ n. none-written (w .state .regs) (w .memory)) (effect-one w f d time)
 
 -- the words that are written are those of the element that the answer names

@@ -56,12 +56,18 @@ pub record ReceiveOpen (w : World) (f : Frame) (bytes : ℕ) : Type 0 where
   pub form : (f .fdf && not (w .state .regs .fdon)) ≡ false
   pub sound : Sound (w .state) (length (w .memory))
 
-pub receive-open : (w : World) (f : Frame) (bytes : ℕ) → first (receiveRefusals w f bytes) ≡ allowed → ReceiveOpen w f bytes
+pub receive-open : (w : World) (f : Frame) (bytes : ℕ) → first (receiveRefusals w f bytes) ≡ allowed
+    → ReceiveOpen w f bytes
 unfolding receiveRefusals
 receive-open w f bytes e =
-    let p =
-    all-three (isUnfit w) (malformed f bytes) (f .fdf && not (w .state .regs .fdon)) (plain 20) (plain 21) (plain 22) e in
-    record { fit = p .0; formed = p .1; form = p .2; sound = sound-of (w .state) (w .recorded) (length (w .memory)) (p .0) }
+    let off = f .fdf && not (w .state .regs .fdon) in
+    let p = all-three (isUnfit w) (malformed f bytes) off (plain 20) (plain 21) (plain 22) e in
+    record {
+      fit = p .0;
+      formed = p .1;
+      form = p .2;
+      sound = sound-of (w .state) (w .recorded) (length (w .memory)) (p .0);
+    }
 
 -- the same, of what was judged
 pub receive-ready : (s : State) (r : Record) (mem : List ℕ) (f : Frame) (len : ℕ) (j : Judged)

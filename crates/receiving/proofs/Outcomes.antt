@@ -30,8 +30,9 @@ goes-within w f bytes o =
     (legal-lists (w .state .regs) (length (w .memory)) (o .sound .legal) .few)
 
 module _ (w : World) (f : Frame) (d : List ℕ) (time : ℕ) where
-  module _ (free : ReceiveOpen w f (length d)) (P : Effect Fate → Type 0)
-      (fifo : (k : ℕ) (priority : Bool) (m : Matched) → k ≤ 1 → indexOf m < 128 → P (intoFifo w k priority (arrival f time m) d))
+  module _ (passed : ReceiveOpen w f (length d)) (P : Effect Fate → Type 0)
+      (fifo : (k : ℕ) (priority : Bool) (m : Matched) → k ≤ 1 → indexOf m < 128
+      → P (intoFifo w k priority (arrival f time m) d))
       (buffer : (b i : ℕ) → b < w .state .regs .buffers → bit (w .state .newdata) b ≡ 0 → i < 128
       → P (intoBuffer w b (arrival f time (Filter i)) d))
       (nowhere : (why : ℕ) (m : Matched) → indexOf m < 128 → P (intoNothing w why (arrival f time m))) where
@@ -42,7 +43,7 @@ module _ (w : World) (f : Frame) (d : List ℕ) (time : ℕ) where
 
     pub receives-cases : P (receives w f d time)
     receives-cases =
-        going (destination (w .state .regs) (w .memory) f (w .state .newdata)) (goes-within w f (length d) free)
+        going (destination (w .state .regs) (w .memory) f (w .state .newdata)) (goes-within w f (length d) passed)
 
   pub receive-cases : (P : Outcome Fate → Type 0) → ((n : Refusal) → P (outcome (refuses n) w []))
       → (ReceiveOpen w f (length d) → P (effected (receives w f d time))) → P (receive w f d time)

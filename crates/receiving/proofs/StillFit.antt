@@ -20,16 +20,17 @@ use Rattle.engine.proofs.Parts.{with-fifo-sound, with-new-sound}
 use Rattle.engine.proofs.Records.{raised-sound, either-sound, priority-sound, kept-fit, kept-flags}
 use Rattle.engine.proofs.Sounds.{flags-of, fit-of, ring-fits}
 use Rattle.receiving.specs.Fifos.{keeperOf}
-use Rattle.receiving.specs.Priority.{prioritised, slotOutcome, slotPlace}
+use Rattle.receiving.specs.Priority.{prioritised}
 use Rattle.receiving.specs.Receive.{Fate, receiveRefusals, intoFifo, intoBuffer, intoNothing, receives}
 use Rattle.receiving.proofs.Elements.{receive-memory}
 use Rattle.receiving.proofs.Judgements.{ReceiveOpen, receive-open}
 use Rattle.receiving.proofs.Outcomes.{receives-cases}
 
-prioritised-sound : (r : Record) (a : Arrival) (outcome place : ℕ) → FlagsSound r → FlagsSound (prioritised r a outcome place)
+prioritised-sound : (r : Record) (a : Arrival) (outcome place : ℕ) → FlagsSound r
+    → FlagsSound (prioritised r a outcome place)
 prioritised-sound r a outcome place h = priority-sound _ _ (raised-sound r 8 refl h)
 
-module _ (w : World) (f : Frame) (d : List ℕ) (time : ℕ) (free : ReceiveOpen w f (length d)) where
+module _ (w : World) (f : Frame) (d : List ℕ) (time : ℕ) (passed : ReceiveOpen w f (length d)) where
   abbrev words : ℕ
   words = length (w .memory)
 
@@ -37,7 +38,7 @@ module _ (w : World) (f : Frame) (d : List ℕ) (time : ℕ) (free : ReceiveOpen
   Fits e = unfit (e .world .state) (e .world .recorded) words ≡ false
 
   flags : FlagsSound (w .recorded)
-  flags = flags-of (w .state) (w .recorded) words (free .fit)
+  flags = flags-of (w .state) (w .recorded) words (passed .fit)
 
   fifo-fits : (k : ℕ) (priority : Bool) (a : Arrival) → k ≤ 1 → Fits (intoFifo w k priority a d)
   unfolding intoFifo
@@ -46,26 +47,28 @@ module _ (w : World) (f : Frame) (d : List ℕ) (time : ℕ) (free : ReceiveOpen
       let q = fifoRing (w .state) k in
       let kept = kept-flags keeper q (w .recorded) (omega arith) flags in
       fit-of _ _ words
-      (with-fifo-sound (w .state) words k _ (free .sound) (kept-fit keeper q (w .recorded) (ring-fits (w .state) words k (free .sound))))
+      (with-fifo-sound (w .state) words k _ (passed .sound)
+      (kept-fit keeper q (w .recorded) (ring-fits (w .state) words k (passed .sound))))
       (either-sound priority _ _ (prioritised-sound _ a _ _ kept) kept)
 
   buffer-fits : (b : ℕ) (a : Arrival) → b < w .state .regs .buffers → Fits (intoBuffer w b a d)
   unfolding intoBuffer
   buffer-fits b a l =
       fit-of _ _ words
-      (with-new-sound (w .state) words (withBit (w .state .newdata) b) (free .sound)
-      (set-lt (w .state .regs .buffers) (w .state .newdata) b (free .sound .newdata) l))
+      (with-new-sound (w .state) words (withBit (w .state .newdata) b) (passed .sound)
+      (set-lt (w .state .regs .buffers) (w .state .newdata) b (passed .sound .newdata) l))
       (raised-sound (w .recorded) 19 refl flags)
 
   nowhere-fits : (why : ℕ) (a : Arrival) → Fits (intoNothing w why a)
   unfolding intoNothing
   nowhere-fits why a =
-      fit-of (w .state) _ words (free .sound) (either-sound (eqb why 3) _ (w .recorded) (prioritised-sound (w .recorded) a 0 0 flags) flags)
+      fit-of (w .state) _ words (passed .sound)
+      (either-sound (eqb why 3) _ (w .recorded) (prioritised-sound (w .recorded) a 0 0 flags) flags)
 
   effect-fits : Fits (receives w f d time)
   effect-fits =
-      receives-cases w f d time free Fits (λ k priority m l x. fifo-fits k priority _ l) (λ b i l z x. buffer-fits b _ l)
-      (λ why m x. nowhere-fits why _)
+      receives-cases w f d time passed Fits
+      (λ k priority m l x. fifo-fits k priority _ l) (λ b i l z x. buffer-fits b _ l) (λ why m x. nowhere-fits why _)
 
 pub receive-fit : (w : World) (f : Frame) (d : List ℕ) (time : ℕ) → first (receiveRefusals w f (length d)) ≡ allowed
     → isUnfit (receives w f d time .world) ≡ false

@@ -1,6 +1,6 @@
 -- The cases of storing an arrival, one law each.
 -- Assumes nothing.
-use Prim.Native.Nat.{ℕ, _*_}
+use Prim.Native.Nat.{ℕ, _*_, _≤_, _<_}
 use mathlib.Core.Path.{_≡_, refl, ap₂, _∙_}
 use mathlib.Core.List.{List}
 use native.Mathlib.Omega.{arith}
@@ -12,12 +12,13 @@ use Rattle.places.specs.Slots.{slotMemory}
 use Rattle.places.specs.declared.Area.{Area}
 use Rattle.places.specs.declared.Slot.{Slot}
 use Rattle.places.specs.declared.Slot.the-variants.{At, Lost}
-use Rattle.registers.specs.Fields.{fifoWord}
+use Rattle.registers.specs.Fields.{fifoWord, fifoSize}
 use Rattle.registers.specs.Kinds.{field, rxfcCount, rxfcWatermark, rxfcOverwrite}
 use Rattle.registers.specs.declared.kinds.Rxfc.{Rxfc}
 use Rattle.element.specs.Elements.{rxElement}
 use Rattle.element.specs.declared.Arrival.{Arrival}
 use Rattle.areas.specs.Areas.{dataWords}
+use Rattle.engine.specs.Fitness.{Sound}
 use Rattle.engine.specs.Keeping.{keepRule}
 use Rattle.engine.specs.Needs.{CanKeep}
 use Rattle.engine.specs.States.{fifoRing}
@@ -25,6 +26,8 @@ use Rattle.engine.specs.declared.keeping.Keeper.{Keeper}
 use Rattle.engine.specs.declared.keeping.Kept.{Kept}
 use Rattle.engine.specs.declared.state.State.{State}
 use Rattle.engine.specs.declared.state.Record.{Record}
+use Rattle.engine.proofs.Keeps.{kept-within}
+use Rattle.engine.proofs.Sounds.{ring-fits}
 use Rattle.receiving.specs.Fifos.{keeperOf}
 use Rattle.receiving.specs.Needs.{CanStore, CanPut, RingFits}
 
@@ -40,7 +43,8 @@ module _ (area : Area) (slot : Slot) where
   slot-place a words p h e = record { element = record { room = h .room; within = h .within p e }; fields = h .fields }
 
   module _ (mem ws : List ℕ) where
-    pub put-at : (last : List ℕ) (p : ℕ) → slot ≡ At p → last ≡ splice mem (placeIn area p) ws → last ≡ slotMemory mem area ws slot
+    pub put-at : (last : List ℕ) (p : ℕ) → slot ≡ At p → last ≡ splice mem (placeIn area p) ws
+        → last ≡ slotMemory mem area ws slot
     put-at last p e h = rw e h
 
     pub put-nowhere : slot ≡ Lost → mem ≡ slotMemory mem area ws slot
@@ -48,9 +52,9 @@ module _ (area : Area) (slot : Slot) where
 
 -- ---- what a FIFO keeps
 
-module _ (s : State) (fifo : ℕ) (w : Rxfc) (size mark mode : ℕ) (q : Ring) (e : w .word ≡ fifoWord (s .regs) fifo)
-    (a : size ≡ field rxfcCount (w .word)) (b : mark ≡ field rxfcWatermark (w .word)) (c : mode ≡ field rxfcOverwrite (w .word))
-    (y : q ≡ fifoRing s fifo) where
+module _ (s : State) (fifo : ℕ) (w : Rxfc) (size mark mode : ℕ) (q : Ring)
+    (e : w .word ≡ fifoWord (s .regs) fifo) (a : size ≡ field rxfcCount (w .word))
+    (b : mark ≡ field rxfcWatermark (w .word)) (c : mode ≡ field rxfcOverwrite (w .word)) (y : q ≡ fifoRing s fifo) where
   abbrev made : Keeper
   made = record { size = size; mark = mark; overwrites = eqb mode 1; first = 4 * fifo }
 
@@ -60,5 +64,13 @@ module _ (s : State) (fifo : ℕ) (w : Rxfc) (size mark mode : ℕ) (q : Ring) (
   pub can-keep : RingFits s fifo → CanKeep made q
   can-keep h = record { ring = rw (y, a, e) (h .ring); flags = omega (arith, h .number) }
 
-  pub kept-in : (r : Record) (k : Kept) → k ≡ keepRule made q r → k ≡ keepRule (keeperOf (s .regs) fifo) (fifoRing s fifo) r
+  pub kept-in : (r : Record) (k : Kept) → k ≡ keepRule made q r
+      → k ≡ keepRule (keeperOf (s .regs) fifo) (fifoRing s fifo) r
   kept-in r k h = h ∙ ap₂ (λ (x : Keeper) (p : Ring). keepRule x p r) made-is y
+
+-- a slot's place is one of the FIFO's
+pub slot-within : (s : State) (words fifo : ℕ) (r : Record) → Sound s words → fifo ≤ 1
+    → (p : ℕ) → keepRule (keeperOf (s .regs) fifo) (fifoRing s fifo) r .slot ≡ At p → p < fifoSize (s .regs) fifo
+slot-within s words fifo r h l =
+    kept-within (keeperOf (s .regs) fifo) (fifoRing s fifo) r
+    (record { ring = ring-fits s words fifo h; flags = omega arith })

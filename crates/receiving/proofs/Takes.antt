@@ -36,7 +36,6 @@ use Rattle.engine.specs.States.{fifoRing, withFifo, withNewData}
 use Rattle.engine.specs.declared.keeping.Kept.{Kept}
 use Rattle.engine.specs.declared.state.State.{State}
 use Rattle.engine.specs.declared.state.Record.{Record}
-use Rattle.engine.proofs.Keeps.{kept-within}
 use Rattle.engine.proofs.Sounds.{ring-fits}
 use Rattle.receiving.specs.Fifos.{keeperOf}
 use Rattle.receiving.specs.Needs.{CanStore, CanPut, RingFits, SlotNotable, Ready, ReadyFifo, ReadyBuffer}
@@ -44,6 +43,7 @@ use Rattle.receiving.specs.Priority.{slotPlace, slotNoted, dropNoted}
 use Rattle.receiving.specs.Receive.{Fate, stored, storedBuffer, lostTo, dropped, arrival, slotSays}
 use Rattle.receiving.specs.Receive.{intoFifo, intoBuffer, intoNothing, goesTo, receives}
 use Rattle.receiving.proofs.Lists.{legal-lists, index-small}
+use Rattle.receiving.proofs.Stores.{slot-within}
 
 same-outcome : {x y : Says Fate} {s t : State} {r q : Record} {l k : List ℕ} → x ≡ y → s ≡ t → r ≡ q → l ≡ k
     → settles x (world s r l) ≡ settles y (world t q k)
@@ -68,13 +68,12 @@ module _ (s : State) (fifo : ℕ) (a : Arrival) where
       room = fifo-roomy (s .regs) words (h .sound .legal) fifo
 
       within : (p : ℕ) → k .slot ≡ At p → p < fifoSize (s .regs) fifo
-      within p z =
-          kept-within (keeperOf (s .regs) fifo) (fifoRing s fifo) r
-          (record { ring = ring-ready words h .ring; flags = omega (arith, h .number) }) p (sym (ap (λ (x : Kept). x .slot) e) ∙ z)
+      within p z = slot-within s words fifo r (h .sound) (h .number) p (sym (ap (λ (x : Kept). x .slot) e) ∙ z)
 
       pub put-ready : (area : Area) → area ≡ fifoArea (s .regs) fifo → CanPut area (k .slot) a words
       put-ready area u =
-          subst (λ (x : Area). CanPut x (k .slot) a words) (sym u) (record { room = room; within = within; fields = h .fields })
+          subst (λ (x : Area). CanPut x (k .slot) a words) (sym u)
+          (record { room = room; within = within; fields = h .fields })
 
       pub note-ready : SlotNotable a fifo (k .slot)
       note-ready = record { index = h .fields .index; number = h .number; element = small (k .slot) within }
@@ -84,7 +83,8 @@ module _ (s : State) (fifo : ℕ) (a : Arrival) where
           small Lost g = omega arith
 
     -- the parts of the outcome, by the area and what was kept
-    pub in-fifo : (mem : List ℕ) (priority : Bool) (d : List ℕ) (area : Area) (last : List ℕ) (x : Says Fate) (t : State) (n : Record)
+    pub in-fifo : (mem : List ℕ) (priority : Bool) (d : List ℕ) (area : Area) (last : List ℕ)
+        (x : Says Fate) (t : State) (n : Record)
         → area ≡ fifoArea (s .regs) fifo → last ≡ slotMemory mem area (rxElement a d (dataWords area)) (k .slot)
         → x ≡ answers (slotSays fifo (a .matched) (k .slot)) → t ≡ withFifo s fifo (k .ring)
         → n ≡ slotNoted (k .recorded) priority a fifo (k .slot)
@@ -104,7 +104,10 @@ module _ (s : State) (buffer : ℕ) (a : Arrival) where
       → CanStore area buffer a words
   buffer-ready words area h u =
       subst (λ (x : Area). CanStore x buffer a words) (sym u)
-      (record { element = record { room = buffer-roomy (s .regs) words (h .sound .legal); within = h .number }; fields = h .fields })
+      (record {
+        element = record { room = buffer-roomy (s .regs) words (h .sound .legal); within = h .number };
+        fields = h .fields;
+      })
 
   pub in-buffer : (r : Record) (mem d : List ℕ) (area : Area) (last : List ℕ) (i : ℕ) (t : State) (n : Record)
       → area ≡ bufferArea (s .regs) → last ≡ splice mem (placeIn area buffer) (rxElement a d (dataWords area))
@@ -133,15 +136,19 @@ module _ (s : State) (mem : List ℕ) (f : Frame) (h : Ready s f (length mem)) w
       };
     }
 
-    pub to-buffer-ready : (buffer i : ℕ) → g ≡ Buffer buffer i → ReadyBuffer s buffer (arrival f time (Filter i)) (length mem)
+    pub to-buffer-ready : (buffer i : ℕ) → g ≡ Buffer buffer i
+        → ReadyBuffer s buffer (arrival f time (Filter i)) (length mem)
     to-buffer-ready buffer i y = record {
       sound = h .sound;
       number = buffer-number (s .regs) mem f (s .newdata) (lists-ready .few) g e buffer i y;
-      fields = record { index = buffer-index (s .regs) mem f (s .newdata) (lists-ready .few) g e buffer i y; frame = h .fields };
+      fields = record {
+        index = buffer-index (s .regs) mem f (s .newdata) (lists-ready .few) g e buffer i y;
+        frame = h .fields;
+      };
     }
 
-  pub drop-ready : (g : Destination) → meaning g ≡ destination (s .regs) mem f (s .newdata) → (why : Reason) (m : Matched)
-      → g ≡ Discarded why m → indexOf m < 128
+  pub drop-ready : (g : Destination) → meaning g ≡ destination (s .regs) mem f (s .newdata)
+      → (why : Reason) (m : Matched) → g ≡ Discarded why m → indexOf m < 128
   drop-ready g e why m y = index-small m (discarded-index (s .regs) mem f (s .newdata) (lists-ready .few) g e why m y)
 
 module _ (s : State) (r : Record) (mem : List ℕ) (f : Frame) (d : List ℕ) (time : ℕ) (g : Destination)
@@ -151,11 +158,13 @@ module _ (s : State) (r : Record) (mem : List ℕ) (f : Frame) (d : List ℕ) (t
   went c y = ap (λ (x : Goes). effected (goesTo (world s r mem) f d time x)) (sym (ap meaning y) ∙ e)
 
   pub went-fifo : (o : Outcome Fate) (fifo : ℕ) (priority : Bool) (m : Matched) → g ≡ Fifo fifo priority m
-      → o ≡ effected (intoFifo (world s r mem) fifo priority (arrival f time m) d) → o ≡ effected (receives (world s r mem) f d time)
+      → o ≡ effected (intoFifo (world s r mem) fifo priority (arrival f time m) d)
+      → o ≡ effected (receives (world s r mem) f d time)
   went-fifo o fifo priority m y q = q ∙ went (Fifo fifo priority m) y
 
   pub went-buffer : (o : Outcome Fate) (buffer i : ℕ) → g ≡ Buffer buffer i
-      → o ≡ effected (intoBuffer (world s r mem) buffer (arrival f time (Filter i)) d) → o ≡ effected (receives (world s r mem) f d time)
+      → o ≡ effected (intoBuffer (world s r mem) buffer (arrival f time (Filter i)) d)
+      → o ≡ effected (receives (world s r mem) f d time)
   went-buffer o buffer i y q = q ∙ went (Buffer buffer i) y
 
   pub went-nowhere : (why : Reason) (m : Matched) (n : Record) → g ≡ Discarded why m

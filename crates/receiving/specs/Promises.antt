@@ -10,7 +10,6 @@ use Rattle.frame.specs.declared.Matched.the-variants.{Filter}
 use Rattle.registers.specs.declared.Registers.{Registers}
 use Rattle.layout.specs.Legal.{Has}
 use Rattle.element.specs.Elements.{rxElement}
-use Rattle.element.specs.declared.Arrival.{Arrival}
 use Rattle.areas.specs.Areas.{fifoArea, bufferArea, dataWords}
 use Rattle.areas.specs.Own.{receivingSections, SameSections}
 use Rattle.engine.specs.Calls.{World, withMemory, Alike}

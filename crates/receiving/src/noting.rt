@@ -15,7 +15,7 @@ ghost use Rattle.filter.specs.Destination.{reason};
 ghost use Rattle.receiving.specs.Priority.{prioritised, slotNoted, dropNoted};
 ghost use Rattle.receiving.specs.Needs.{Notable, SlotNotable};
 
-// The outcome in the priority word: no FIFO, lost to one, or stored, which FIFO 1 has one more for.
+// Outcomes in the priority word: no FIFO, lost to one, and stored in FIFO 0. FIFO 1 has one more than that.
 const NO_FIFO: u32 = 0;
 
 const LOST: u32 = 1;
