@@ -22,7 +22,7 @@ use Rattle.shape.specs.Calls.{Says, refuses, answers, outcome}
 use Rattle.shape.proofs.Calls.{rows-both}
 use Rattle.engine.specs.Answers.{told, ruled}
 use Rattle.engine.specs.Calls.{World, world, isUnfit, outputBytes, outputRefusals}
-use Rattle.engine.specs.Fitness.{unfit, Sound}
+use Rattle.engine.specs.Fitness.{unfit}
 use Rattle.engine.specs.declared.refusals.Judged.{Judged}
 use Rattle.engine.specs.declared.refusals.Judged.the-variants.{Allowed, Refused}
 use Rattle.engine.specs.declared.refusals.Refusal.{Refusal}
@@ -32,7 +32,8 @@ use Rattle.engine.specs.declared.state.Record.{Record}
 use Rattle.engine.proofs.Calls.{row-off, row-passes, row-refuses, output-fits, judged-then, judged-refused, judged-done}
 use Rattle.engine.proofs.Sounds.{sound-of}
 use Rattle.choosing.specs.Buffers.{headerIn, headerOf}
-use Rattle.choosing.specs.Choosing.{isCandidate, rankAt, choice, formSent, sentFrame, chosenOf, bytesOf, Next, none, send, nextOf, outputOf, choiceRefusals, chooses, askChoice}
+use Rattle.choosing.specs.Choosing.{isCandidate, rankAt, choice, formSent, sentFrame, chosenOf, bytesOf}
+use Rattle.choosing.specs.Choosing.{Next, none, send, nextOf, outputOf, choiceRefusals, chooses, askChoice}
 use Rattle.choosing.specs.Needs.{picked, CanWrite, CanChoose}
 use Rattle.choosing.specs.declared.asking.Chosen.{Chosen}
 use Rattle.choosing.specs.declared.picking.Pick.{Pick}
@@ -70,11 +71,13 @@ module _ (s : State) (mem : List ℕ) (passive : Bool) (buffer : ℕ) (a : Area)
       ≡ chosenOf s mem passive buffer
   chosen-told n t = simp (t, frame-is, header-is)
 
-  pub chosen-bytes : (out last : List ℕ) → last ≡ splice out 0 (sentFrom mem (placeIn a buffer) (dataWords a) (lengthOf f))
+  pub chosen-bytes : (out last : List ℕ)
+      → last ≡ splice out 0 (sentFrom mem (placeIn a buffer) (dataWords a) (lengthOf f))
       → last ≡ splice out 0 (bytesOf s mem passive buffer)
   chosen-bytes out last t =
       t
-      ∙ ap₂ (λ (x : Area) (g : Frame). splice out 0 (sentFrom mem (placeIn x buffer) (dataWords x) (lengthOf g))) u frame-is
+      ∙ ap₂ (λ (x : Area) (g : Frame). splice out 0 (sentFrom mem (placeIn x buffer) (dataWords x) (lengthOf g)))
+      u frame-is
 
 -- ---- the choice
 
@@ -132,7 +135,8 @@ choice-open w out e =
     let p = rows-both (choiceRefusals w) (outputRefusals (length out)) e in
     record { fit = row-off 20 _ [] (p .0) .0; room = output-fits (length out) (p .1) }
 
-module _ (s : State) (r : Record) (mem out : List ℕ) (i j : Judged) (e : ruled i ≡ first (choiceRefusals (world s r mem)))
+module _ (s : State) (r : Record) (mem out : List ℕ) (i j : Judged)
+    (e : ruled i ≡ first (choiceRefusals (world s r mem)))
     (t : ruled j ≡ (ruled i orElse first (outputRefusals (length out)))) where
   all : ruled j ≡ first (choiceRefusals (world s r mem) ++ outputRefusals (length out))
   all = judged-then (choiceRefusals (world s r mem)) (outputRefusals (length out)) i j e t
@@ -149,7 +153,8 @@ module _ (s : State) (r : Record) (mem out : List ℕ) (i j : Judged) (e : ruled
         let o = choice-open (world s r mem) out (sym all ∙ ap ruled y) in
         record { sound = sound-of s r (length mem) (o .fit); room = o .room }
 
-    pub choice-done : (passive : Bool) (x : Says Next) (last : List ℕ) → x ≡ answers (nextOf s mem passive (choice s mem))
+    pub choice-done : (passive : Bool) (x : Says Next) (last : List ℕ)
+        → x ≡ answers (nextOf s mem passive (choice s mem))
         → last ≡ outputOf s mem passive out (choice s mem)
         → outcome x (world s r mem) last ≡ askChoice (world s r mem) passive out
     unfolding chooses

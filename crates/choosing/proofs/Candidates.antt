@@ -19,9 +19,10 @@ use Rattle.registers.specs.Fields.{dedicated, shared, txCount, isQueue}
 use Rattle.engine.specs.Buffers.{isPending}
 use Rattle.engine.specs.Fitness.{sharedRingSize, Sound}
 use Rattle.engine.specs.declared.state.State.{State}
-use Rattle.engine.proofs.Cases.{fifo-ring}
+use Rattle.engine.proofs.Buffers.{ring-size}
 use Rattle.choosing.specs.Choosing.{isCandidate, rankAt, choice}
-use Rattle.choosing.specs.Promises.{Candidate, dedicatedOne, oldestOne, queueOne, CandidatesAreThose, CandidatesWait, BestOf, ChoiceIsBest, NoneChosen}
+use Rattle.choosing.specs.Promises.{Candidate, dedicatedOne, oldestOne, queueOne, BestOf}
+use Rattle.choosing.specs.Promises.{CandidatesAreThose, CandidatesWait, ChoiceIsBest, NoneChosen}
 
 -- ---- which they are
 
@@ -39,7 +40,8 @@ module _ (s : State) (buffer : ℕ) where
       go false t true u e = queueOne u (ltb-false buffer (dedicated (s .regs)) t) e
       go false t false u e =
           let b = and-both (ltb 0 (s .shared .fill)) (eqb buffer (dedicated (s .regs) + s .shared .oldest)) e in
-          oldestOne u (ltb-true 0 (s .shared .fill) (b .0)) (eqb-true buffer (dedicated (s .regs) + s .shared .oldest) (b .1))
+          oldestOne u (ltb-true 0 (s .shared .fill) (b .0))
+          (eqb-true buffer (dedicated (s .regs) + s .shared .oldest) (b .1))
 
   told : Candidate s buffer → isCandidate s buffer ≡ true
   unfolding isCandidate
@@ -68,13 +70,16 @@ set-below w k n h e = go (ltb n k) refl
 
 pub candidates-wait : CandidatesWait
 candidates-wait s words buffer h (dedicatedOne l e) = record { exists = omega arith; pending = e }
-candidates-wait s words buffer h (queueOne u l e) = record { exists = set-below (s .pending) (txCount (s .regs)) buffer (h .pending) e; pending = e }
+candidates-wait s words buffer h (queueOne u l e) =
+    record { exists = set-below (s .pending) (txCount (s .regs)) buffer (h .pending) e; pending = e }
 candidates-wait s words buffer h (oldestOne u l e) =
-    let size : sharedRingSize (s .regs) ≡ shared (s .regs) = sym (fifo-ring (s .regs) (isQueue (s .regs)) refl u (shared (s .regs)) refl) in
-    let within : s .shared .oldest < sharedRingSize (s .regs) = omega (arith, h .shared .place, h .shared .room) in
+    let n = sharedRingSize (s .regs) in
+    let size = ring-size s words h u in
+    let within : s .shared .oldest < n = omega (arith, h .shared .place, h .shared .room) in
     record {
       exists = omega arith;
-      pending = ap (isPending s) e ∙ h .heldBits (s .shared .oldest) within ∙ oldest-held (s .shared) (sharedRingSize (s .regs)) (h .shared) l;
+      pending =
+          ap (isPending s) e ∙ h .heldBits (s .shared .oldest) within ∙ oldest-held (s .shared) n (h .shared) l;
     }
 
 -- ---- the choice among them
@@ -84,18 +89,26 @@ module _ (s : State) (words : ℕ) (mem : List ℕ) (h : Sound s words) where
   unfolding choice
   chosen-best buffer e =
       let w = best-wins (isCandidate s) (rankAt s mem) (txCount (s .regs)) buffer e in
-      record { one = tells s buffer (w .one); best = λ k c. w .best k (candidates-wait s words k h c .exists) (told s k c) }
+      record {
+        one = tells s buffer (w .one);
+        best = λ k c. w .best k (candidates-wait s words k h c .exists) (told s k c);
+      }
 
   best-chosen : (buffer : ℕ) → BestOf s mem buffer → choice s mem ≡ somebody buffer
   unfolding choice
   best-chosen buffer b =
       best-only (isCandidate s) (rankAt s mem) (txCount (s .regs)) (somebody buffer)
-      (record { below = candidates-wait s words buffer h (b .one) .exists; one = told s buffer (b .one); best = λ k l e. b .best k (tells s k e) })
+      (record {
+        below = candidates-wait s words buffer h (b .one) .exists;
+        one = told s buffer (b .one);
+        best = λ k l e. b .best k (tells s k e);
+      })
 
   none-there : choice s mem ≡ nobody → (k : ℕ) → Candidate s k → ⊥
   unfolding choice
   none-there e k c =
-      let z : true ≡ false = sym (told s k c) ∙ best-none (isCandidate s) (rankAt s mem) (txCount (s .regs)) .0 e k (candidates-wait s words k h c .exists) in
+      let none = best-none (isCandidate s) (rankAt s mem) (txCount (s .regs)) .0 e in
+      let z : true ≡ false = sym (told s k c) ∙ none k (candidates-wait s words k h c .exists) in
       let y : _≡_ {A = ℕ} 0 1 = cc in
       omega arith
 

@@ -1,22 +1,25 @@
--- The choice looks at the Tx buffers' section alone: two memories that have the same there give the same.
+-- The choice looks at the Tx buffers' section and writes the front of its output alone.
 -- Assumes nothing.
 use Prim.Native.Nat.{ℕ, _+_, _≤_, _<_}
-use mathlib.Core.Path.{_≡_, refl, sym, ap, ap₂, _∙_}
+use mathlib.Core.Path.{_≡_, refl, sym, ap, ap₂, _∙_, subst}
 use mathlib.Core.Bool.{Bool}
 use mathlib.Core.List.{List, _∷_, _++_}
 use native.Mathlib.Nat.{mul-le-mul-right}
 use native.Mathlib.Omega.{arith}
 use lib.ListN.{length, getD}
 use Rattle.words.specs.Best.{Best, nobody, somebody}
-use Rattle.words.specs.Ranges.{Range, Inside, SameIn}
+use Rattle.words.specs.Ranges.{Range, front, Inside, SameIn, OnlyIn}
 use Rattle.words.specs.Rules.{first}
-use Rattle.words.specs.Runs.{splice}
+use Rattle.words.specs.Runs.{run, splice}
 use Rattle.words.proofs.Bests.{best-same, best-wins}
+use Rattle.words.proofs.Ranges.{only-none, splice-only}
+use Rattle.words.proofs.Runs.{length-run}
 use Rattle.frame.specs.Arbitration.{rankOf}
+use Rattle.frame.proofs.Lengths.{length-most}
 use Rattle.frame.proofs.SizeLaws.{words-least}
 use Rattle.registers.specs.Fields.{txCount, txCode}
 use Rattle.registers.specs.declared.Registers.{Registers}
-use Rattle.element.specs.Bytes.{lengthOf, sentFrom}
+use Rattle.element.specs.Bytes.{lengthOf, sentByte, sentFrom}
 use Rattle.element.specs.Headers.{txHeaderIn}
 use Rattle.element.specs.declared.TxHeader.{TxHeader}
 use Rattle.element.proofs.OwnWords.{own-words}
@@ -27,14 +30,14 @@ use Rattle.areas.specs.Own.{SameSections}
 use Rattle.areas.proofs.Rooms.{tx-roomy}
 use Rattle.areas.proofs.Sections.{areas-are-sections}
 use Rattle.shape.specs.Calls.{answers}
-use Rattle.engine.specs.Calls.{withMemory, _when_, outputRefusals}
+use Rattle.engine.specs.Calls.{World, withMemory, _when_, outputBytes, outputRefusals}
 use Rattle.engine.specs.Fitness.{Sound, unfit}
 use Rattle.engine.specs.declared.state.State.{State}
 use Rattle.engine.proofs.Alike.{call-alike}
 use Rattle.engine.proofs.Sounds.{sound-of}
 use Rattle.choosing.specs.Buffers.{headerOf}
 use Rattle.choosing.specs.Choosing.{isCandidate, rankAt, choice, formSent, sentFrame, chosenOf, bytesOf}
-use Rattle.choosing.specs.Choosing.{send, nextOf, outputOf, choiceRefusals, chooses}
+use Rattle.choosing.specs.Choosing.{Next, none, send, nextOf, outputOf, choiceRefusals, chooses}
 use Rattle.choosing.specs.Promises.{ChoiceLooksAtTxBuffers}
 use Rattle.choosing.proofs.Calls.{choice-open}
 
@@ -122,10 +125,36 @@ choice-looks-at-tx-buffers w other passive out sections six same =
     call-alike sections w other out same (choiceRefusals w ++ thirty) (choiceRefusals (withMemory w other) ++ thirty)
     (chooses w passive out) (chooses (withMemory w other) passive out)
     (ap (λ (n : ℕ). first (20 when unfit s (w .recorded) n ∷ thirty)) (same .size))
-    (λ e. record {
+    (λ e. let h = sound-of s (w .recorded) (length mem) (choice-open w out e .fit) in
+    record {
       says = ap answers (next-same s mem other tx passive);
       state = refl;
       recorded = refl;
       memory = same;
-      output = output-same s mem other tx passive (sound-of s (w .recorded) (length mem) (choice-open w out e .fit)) out;
+      output = output-same s mem other tx passive h out;
     })
+
+-- ---- the output
+
+-- the bytes that an answer tells of
+abbrev pub sentFront : Next → Range
+sentFront none = front 0
+sentFront (send c) = front (c .count)
+
+-- no other byte of the output is written
+pub chooses-front : (w : World) (passive : Bool) (out : List ℕ) → length out ≡ outputBytes
+    → let d = chooses w passive out in OnlyIn (sentFront (d .answer)) out (d .output)
+unfolding chooses sentFrom
+chooses-front w passive out e = go (choice (w .state) (w .memory))
+  where
+    go : (best : Best)
+        → OnlyIn (sentFront (nextOf (w .state) (w .memory) passive best)) out
+        (outputOf (w .state) (w .memory) passive out best)
+    go nobody = only-none (front 0) out
+    go (somebody buffer) =
+        let a = txArea (w .state .regs) in
+        let f = sentFrame (w .state) (w .memory) passive buffer in
+        let byte = sentByte (w .memory) (placeIn a buffer) (dataWords a) in
+        let long : length (run byte 0 (lengthOf f)) ≡ lengthOf f = length-run byte 0 (lengthOf f) in
+        subst (λ (k : ℕ). OnlyIn (front k) out (splice out 0 (run byte 0 (lengthOf f)))) long
+        (splice-only out 0 (run byte 0 (lengthOf f)) (omega (arith, length-most (f .rtr) (f .fdf) (f .dlc))))

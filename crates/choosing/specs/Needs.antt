@@ -8,7 +8,6 @@ use Rattle.words.specs.Choice.{pick}
 use Rattle.frame.specs.Arbitration.{rankOf}
 use Rattle.places.specs.Areas.{HasPlace}
 use Rattle.places.specs.declared.Area.{Area}
-use Rattle.areas.specs.Areas.{txArea}
 use Rattle.engine.specs.Calls.{outputBytes}
 use Rattle.engine.specs.Fitness.{Sound}
 use Rattle.engine.specs.declared.state.State.{State}

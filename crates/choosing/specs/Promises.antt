@@ -17,7 +17,8 @@ use Rattle.choosing.specs.Choosing.{isCandidate, rankAt, choice, askChoi
 -- the paper's candidates, one constructor for each kind of buffer
 pub data Candidate (s : State) (buffer : ℕ) : Type 0 where
   dedicatedOne : buffer < dedicated (s .regs) → isPending s buffer ≡ true → Candidate s buffer
-  oldestOne : isQueue (s .regs) ≡ false → 0 < s .shared .fill → buffer ≡ dedicated (s .regs) + s .shared .oldest → Candidate s buffer
+  oldestOne : isQueue (s .regs) ≡ false → 0 < s .shared .fill → buffer ≡ dedicated (s .regs) + s .shared .oldest
+      → Candidate s buffer
   queueOne : isQueue (s .regs) ≡ true → dedicated (s .regs) ≤ buffer → isPending s buffer ≡ true → Candidate s buffer
 
 abbrev pub CandidatesAreThose : Type 0

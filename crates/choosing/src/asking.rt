@@ -25,7 +25,8 @@ ghost use Rattle.areas.specs.Areas.{txArea, dataWords};
 ghost use Rattle.shape.specs.Calls.{outcome, answers};
 ghost use Rattle.engine.specs.Answers.{ruled};
 ghost use Rattle.engine.specs.Calls.{world};
-ghost use Rattle.choosing.specs.Choosing.{choice, chosenOf, bytesOf, nextOf, outputOf, meaning, choiceRefusals, askChoice};
+ghost use Rattle.choosing.specs.Choosing.{choice, chosenOf, bytesOf, nextOf, outputOf, meaning};
+ghost use Rattle.choosing.specs.Choosing.{choiceRefusals, askChoice};
 ghost use Rattle.choosing.specs.Needs.{CanWrite, CanChoose};
 
 // The frame to send next, as it is sent.
@@ -50,7 +51,8 @@ pub enum ChoiceAnswer {
 fn write_bytes(mem: &[u32], a: Area, buffer: u32, f: Frame, out: &mut [u8]) -> u32
     requires { ⌜ CanWrite (now mem) a buffer (now out) ⌝ }
     ensures { λ n. ⌜ (n ≡ lengthOf f)
-        × (now (out .exit) ≡ splice (now (out .entry)) 0 (sentFrom (now (mem .entry)) (placeIn a buffer) (dataWords a) (lengthOf f))) ⌝ }
+        × (now (out .exit) ≡ splice (now (out .entry)) 0
+        (sentFrom (now (mem .entry)) (placeIn a buffer) (dataWords a) (lengthOf f))) ⌝ }
 {
     let at = place_in(a, buffer, mem.len());
     let count = data_length(f.rtr, f.fdf, f.dlc);

@@ -1,23 +1,22 @@
 -- What a call may change, by its answer: words of the memory, bytes of the output, parts of state and record. A refusal changes nothing.
 use Prim.Native.Nat.{ℕ}
 use mathlib.Core.Path.{_≡_}
-use mathlib.Core.Bool.{Bool, false, _&&_, _||_}
+use mathlib.Core.Bool.{Bool, false, _||_}
 use mathlib.Core.List.{List, [], _∷_}
-use lib.Dec.{eqb, ltb}
+use lib.Dec.{eqb}
 use Rattle.words.specs.Choice.{pick}
 use Rattle.words.specs.Ranges.{Range, front}
-use Rattle.ring.specs.Rings.{putPlace}
 use Rattle.shape.specs.Calls.{Says, refuses, answers}
 use Rattle.places.specs.Areas.{placeRange}
-use Rattle.registers.specs.Fields.{eventSize}
 use Rattle.registers.specs.declared.Registers.{Registers}
-use Rattle.areas.specs.Areas.{fifoArea, bufferArea, eventArea, txArea}
+use Rattle.areas.specs.Areas.{txArea}
 use Rattle.filter.specs.Destination.{reason}
 use Rattle.filter.specs.declared.Reason.the-variants.{PriorityOnly}
 use Rattle.engine.specs.Calls.{World}
+use Rattle.receiving.specs.Promises.{storedIn}
 use Rattle.receiving.specs.Receive.{Fate, stored, storedBuffer, lostTo, dropped}
-use Rattle.choosing.specs.Buffers.{headerOf}
 use Rattle.choosing.specs.Choosing.{Next, none, send}
+use Rattle.reporting.specs.Promises.{eventRange}
 use Rattle.handler.specs.Calls.{Call, start, receive, readFifo, acknowledgeFifo, readBuffer, releaseBuffer}
 use Rattle.handler.specs.Calls.{requestDedicated, requestShared, cancel, askChoice, reportSent, readEvent}
 use Rattle.handler.specs.Calls.{acknowledgeEvent, clearFlags, reportStatus, Answer}
@@ -88,13 +87,12 @@ bytesOnly n = changes (front 0) (front n) []
 abbrev pub fifoPart : ℕ → Part
 fifoPart fifo = pick (eqb fifo 0) fifo0 fifo1
 
--- call 2: the element that the answer names, and what keeps it. Of the discards, a match for priority only is noted
-abbrev pub byFate : Registers → Fate → Changes
-byFate g (stored fifo place m) =
-    changes (placeRange (fifoArea g fifo) place) (front 0) (fifoPart fifo ∷ flags ∷ priority ∷ [])
-byFate g (storedBuffer buffer i) = changes (placeRange (bufferArea g) buffer) (front 0) (newData ∷ flags ∷ [])
-byFate g (lostTo fifo m) = partsOnly (flags ∷ priority ∷ [])
-byFate g (dropped why m) = partsOnly (pick (eqb why (reason PriorityOnly)) (flags ∷ priority ∷ []) [])
+-- call 2: what keeps the frame, and the record. Of the discards, a match for priority only is noted
+abbrev pub partsBy : Fate → List Part
+partsBy (stored fifo place m) = fifoPart fifo ∷ flags ∷ priority ∷ []
+partsBy (storedBuffer buffer i) = newData ∷ flags ∷ []
+partsBy (lostTo fifo m) = flags ∷ priority ∷ []
+partsBy (dropped why m) = pick (eqb why (reason PriorityOnly)) (flags ∷ priority ∷ []) []
 
 -- call 10: the bytes to send
 abbrev pub byChoice : Next → Changes
@@ -105,17 +103,9 @@ byChoice (send c) = bytesOnly (c .count)
 abbrev pub byRequest : Registers → ℕ → List Part → Changes
 byRequest g buffer ps = changes (placeRange (txArea g) buffer) (front 0) (pending ∷ sent ∷ cancelled ∷ ps)
 
--- call 11: the event at the put place, where the element sent wants one and the list has room
-abbrev pub eventWords : World → ℕ → Range
-eventWords w buffer =
-    let s = w .state in
-    pick (headerOf s (w .memory) buffer .wish && ltb (s .events .fill) (eventSize (s .regs)))
-    (placeRange (eventArea (s .regs)) (putPlace (s .events) (eventSize (s .regs))))
-    (front 0)
-
 abbrev pub changesOf : World → (c : Call) → Answer c → Changes
 changesOf w (start g) a = changes (front 0) (front 14) everyPart
-changesOf w (receive f d time) a = byFate (w .state .regs) a
+changesOf w (receive f d time) a = changes (storedIn (w .state .regs) a) (front 0) (partsBy a)
 changesOf w (readFifo fifo place out) a = bytesOnly (a .count)
 changesOf w (acknowledgeFifo fifo place) a = partsOnly (fifoPart fifo ∷ [])
 changesOf w (readBuffer buffer out) a = bytesOnly (a .count)
@@ -125,7 +115,7 @@ changesOf w (requestShared h d) a = byRequest (w .state .regs) a (shared ∷ [])
 changesOf w (cancel buffer) a = partsOnly (pending ∷ cancelled ∷ flags ∷ [])
 changesOf w (askChoice passive out) a = byChoice a
 changesOf w (reportSent buffer passive time) a =
-    changes (eventWords w buffer) (front 0) (events ∷ shared ∷ pending ∷ sent ∷ flags ∷ [])
+    changes (eventRange w buffer) (front 0) (events ∷ shared ∷ pending ∷ sent ∷ flags ∷ [])
 changesOf w (readEvent place) a = nothing
 changesOf w (acknowledgeEvent place) a = partsOnly (events ∷ [])
 changesOf w (clearFlags mask) a = partsOnly (flags ∷ [])

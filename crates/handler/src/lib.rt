@@ -49,7 +49,6 @@ pub use requesting::requesting::Requested;
 pub use starting::Started;
 pub use taking::reading::ReadAnswer;
 pub use taking::releasing::AfterRelease;
-
 ghost use Rattle.engine.specs.Calls.{world};
 ghost use Rattle.handler.specs.Calls as Call;
 ghost use Rattle.handler.specs.Claims.{Claim};
@@ -70,9 +69,7 @@ pub fn receive(
     bytes: &[u8],
     time: u16,
 ) -> AfterReceive
-    ensures {
-        λ r. ⌜ Claim (world s recorded (now (mem .entry))) (Call.receive f (now (bytes .entry)) time) (r, now (mem .exit)) ⌝
-    }
+    ensures { λ r. ⌜ Claim (world s recorded (now (mem .entry))) (Call.receive f (now (bytes .entry)) time) (r, now (mem .exit)) ⌝ }
 {
     receiving::receive::receive(s, recorded, mem, f, bytes, time)
 }
@@ -86,9 +83,7 @@ pub fn read_fifo(
     place: u32,
     out: &mut [u8],
 ) -> ReadAnswer
-    ensures {
-        λ r. ⌜ Claim (world s recorded (now (mem .entry))) (Call.readFifo fifo place (now (out .entry))) (r, now (out .exit)) ⌝
-    }
+    ensures { λ r. ⌜ Claim (world s recorded (now (mem .entry))) (Call.readFifo fifo place (now (out .entry))) (r, now (out .exit)) ⌝ }
 {
     taking::reading::read_fifo(s, recorded, mem, fifo, place, out)
 }
@@ -107,10 +102,14 @@ pub fn acknowledge_fifo(
 }
 
 // 5: reads an Rx buffer that holds new data.
-pub fn read_buffer(s: State, recorded: Record, mem: &[u32], buffer: u32, out: &mut [u8]) -> ReadAnswer
-    ensures {
-        λ r. ⌜ Claim (world s recorded (now (mem .entry))) (Call.readBuffer buffer (now (out .entry))) (r, now (out .exit)) ⌝
-    }
+pub fn read_buffer(
+    s: State,
+    recorded: Record,
+    mem: &[u32],
+    buffer: u32,
+    out: &mut [u8],
+) -> ReadAnswer
+    ensures { λ r. ⌜ Claim (world s recorded (now (mem .entry))) (Call.readBuffer buffer (now (out .entry))) (r, now (out .exit)) ⌝ }
 {
     taking::reading::read_buffer(s, recorded, mem, buffer, out)
 }
@@ -131,9 +130,7 @@ pub fn request_dedicated(
     h: TxHeader,
     bytes: &[u8],
 ) -> AfterRequest
-    ensures {
-        λ r. ⌜ Claim (world s recorded (now (mem .entry))) (Call.requestDedicated buffer h (now (bytes .entry))) (r, now (mem .exit)) ⌝
-    }
+    ensures { λ r. ⌜ Claim (world s recorded (now (mem .entry))) (Call.requestDedicated buffer h (now (bytes .entry))) (r, now (mem .exit)) ⌝ }
 {
     requesting::requesting::request_dedicated(s, recorded, mem, buffer, h, bytes)
 }
@@ -146,9 +143,7 @@ pub fn request_shared(
     h: TxHeader,
     bytes: &[u8],
 ) -> AfterRequest
-    ensures {
-        λ r. ⌜ Claim (world s recorded (now (mem .entry))) (Call.requestShared h (now (bytes .entry))) (r, now (mem .exit)) ⌝
-    }
+    ensures { λ r. ⌜ Claim (world s recorded (now (mem .entry))) (Call.requestShared h (now (bytes .entry))) (r, now (mem .exit)) ⌝ }
 {
     requesting::requesting::request_shared(s, recorded, mem, h, bytes)
 }
@@ -168,9 +163,7 @@ pub fn ask_choice(
     passive: bool,
     out: &mut [u8],
 ) -> ChoiceAnswer
-    ensures {
-        λ r. ⌜ Claim (world s recorded (now (mem .entry))) (Call.askChoice passive (now (out .entry))) (r, now (out .exit)) ⌝
-    }
+    ensures { λ r. ⌜ Claim (world s recorded (now (mem .entry))) (Call.askChoice passive (now (out .entry))) (r, now (out .exit)) ⌝ }
 {
     choosing::asking::ask_choice(s, recorded, mem, passive, out)
 }
@@ -184,9 +177,7 @@ pub fn report_sent(
     passive: bool,
     time: u16,
 ) -> AfterReport
-    ensures {
-        λ r. ⌜ Claim (world s recorded (now (mem .entry))) (Call.reportSent buffer passive time) (r, now (mem .exit)) ⌝
-    }
+    ensures { λ r. ⌜ Claim (world s recorded (now (mem .entry))) (Call.reportSent buffer passive time) (r, now (mem .exit)) ⌝ }
 {
     reporting::report::report_sent(s, recorded, mem, buffer, passive, time)
 }

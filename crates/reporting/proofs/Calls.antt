@@ -39,7 +39,8 @@ module _ (s : State) (r : Record) (mem : List ℕ) (buffer : ℕ) (passive : Boo
       (w ∙ ap₂ (λ (d : Bool) (x : Ring). raisedIf (raised r 9) (d && eqb (x .fill) 0) 11) u e)
 
   pub report-done : (j : Judged) (o : World) → ruled j ≡ first (reportRefusals (world s r mem) buffer) → j ≡ Allowed
-      → o ≡ reports (world s r mem) buffer passive time → settles done o ≡ reportSent (world s r mem) buffer passive time
+      → o ≡ reports (world s r mem) buffer passive time
+      → settles done o ≡ reportSent (world s r mem) buffer passive time
   report-done j o e y q =
       judged-done (world s r mem) [] (reportRefusals (world s r mem) buffer)
       (leaves (reports (world s r mem) buffer passive time)) j e (settles done o) y (ap (settles done) q)
@@ -50,14 +51,14 @@ module _ (w : World) (buffer : ℕ) (passive : Bool) (time : ℕ) (P : World →
   abbrev header : TxHeader
   header = headerOf (w .state) (w .memory) buffer
 
-  pub report-cases : (header .wish ≡ true
-      → P (eventKept (afterSend w buffer) (header .marker) (sentFrame (w .state) (w .memory) passive buffer) time))
-      → (header .wish ≡ false → P (afterSend w buffer)) → P (reports w buffer passive time)
+  abbrev withEvent : World
+  withEvent = eventKept (afterSend w buffer) (header .marker) (sentFrame (w .state) (w .memory) passive buffer) time
+
+  pub report-cases : (header .wish ≡ true → P withEvent) → (header .wish ≡ false → P (afterSend w buffer))
+      → P (reports w buffer passive time)
   unfolding reports
   report-cases kept none = go (header .wish) refl
     where
-      go : (t : Bool) → header .wish ≡ t
-          → P (pick t (eventKept (afterSend w buffer) (header .marker) (sentFrame (w .state) (w .memory) passive buffer) time)
-          (afterSend w buffer))
+      go : (t : Bool) → header .wish ≡ t → P (pick t withEvent (afterSend w buffer))
       go true e = kept e
       go false e = none e

@@ -1,12 +1,11 @@
 -- The event of a send, one law a case.
 -- Assumes nothing.
 use Prim.Native.Nat.{ℕ, _<_}
-use mathlib.Core.Path.{_≡_, refl, sym, ap, ap₂, _∙_, subst}
+use mathlib.Core.Path.{_≡_, sym, ap, ap₂, _∙_}
 use mathlib.Core.Bool.{Bool, true, false}
 use mathlib.Core.List.{List}
 use native.Mathlib.Omega.{arith}
 use Rattle.words.specs.Runs.{splice}
-use Rattle.ring.specs.declared.Ring.{Ring}
 use Rattle.frame.specs.declared.Frame.{Frame}
 use Rattle.registers.specs.Fields.{txCount}
 use Rattle.element.specs.Elements.{eventElement}

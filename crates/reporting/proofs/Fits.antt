@@ -100,7 +100,7 @@ module _ (w : World) (buffer : ℕ) (passive : Bool) (time : ℕ) (e : first (re
   opened : ReportOpen w buffer
   opened = report-open w buffer e
 
-  pub report-sound : Sound (reports w buffer passive time .state) words × FlagsSound (reports w buffer passive time .recorded)
+  pub report-sound : let v = reports w buffer passive time in Sound (v .state) words × FlagsSound (v .recorded)
   report-sound =
       let s = w .state in
       let r = sentRecord s (w .recorded) buffer in

@@ -1,7 +1,7 @@
 -- What is found against a report, one law a case, and what is known where nothing is.
 -- Assumes nothing.
 use Prim.Native.Nat.{ℕ, _≤_, _<_}
-use mathlib.Core.Path.{_≡_, refl, sym, ap, _∙_, subst}
+use mathlib.Core.Path.{_≡_, sym, ap, _∙_}
 use mathlib.Core.Bool.{Bool, true, false, not}
 use mathlib.Core.List.{List, [], _∷_}
 use borrow.Author.Tests.{le-leb, lt-leb, leb-false, not-false, eqb-true}
@@ -95,7 +95,8 @@ report-open w buffer e =
 pub open-candidate : (w : World) (buffer : ℕ) → ReportOpen w buffer → isCandidate (w .state) buffer ≡ true
 unfolding choice
 open-candidate w buffer o =
-    best-wins (isCandidate (w .state)) (rankAt (w .state) (w .memory)) (txCount (w .state .regs)) buffer (o .chosen) .one
+    let s = w .state in
+    best-wins (isCandidate s) (rankAt s (w .memory)) (txCount (s .regs)) buffer (o .chosen) .one
 
 pub report-able : (s : State) (r : Record) (mem : List ℕ) (buffer : ℕ) (j : Judged)
     → ruled j ≡ first (reportRefusals (world s r mem) buffer) → j ≡ Allowed → Reportable s (length mem) buffer

@@ -2,7 +2,7 @@
 -- Assumes nothing.
 use Prim.Native.Nat.{ℕ, _+_, _<_}
 use mathlib.Core.Path.{_≡_, refl, sym, ap, _∙_}
-use mathlib.Core.Bool.{Bool, true, false, not, _&&_}
+use mathlib.Core.Bool.{Bool, true, false, not}
 use borrow.Author.Tests.{leb-true, le-ltb, ltb-true, not-true}
 use native.Mathlib.Omega.{arith}
 use lib.Dec.{leb, ltb, eqb}
@@ -48,7 +48,8 @@ module _ (s : State) (words buffer : ℕ) (h : Reportable s words buffer) where
       pub sent-held : held (s .shared) n (s .shared .oldest) ≡ true
       sent-held = oldest-held (s .shared) n sent-fit sent-some
 
-      pub sent-released : (next : Ring) → next ≡ releasedThrough (s .shared) n (s .shared .oldest) → next ≡ sharedSent s buffer
+      pub sent-released : (next : Ring) → next ≡ releasedThrough (s .shared) n (s .shared .oldest)
+          → next ≡ sharedSent s buffer
       sent-released next t =
           t
           ∙ released-oldest (s .shared) n sent-fit (omega (arith, sent-some, sent-fit .room))

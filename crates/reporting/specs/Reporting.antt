@@ -27,7 +27,7 @@ use Rattle.engine.specs.declared.state.Record.{Record}
 use Rattle.choosing.specs.Buffers.{headerOf}
 use Rattle.choosing.specs.Choosing.{choice, sentFrame}
 
--- 28, where it is not: the buffer is the present choice
+-- the buffer is the present choice; 28 where it is not
 abbrev pub isChosen : Best → ℕ → Bool
 isChosen nobody buffer = false
 isChosen (somebody b) buffer = eqb b buffer

@@ -80,30 +80,31 @@ module _ (s : State) (words : ℕ) (h : Sound s words) where
 
 -- ---- calls 7 and 8
 
-module _ (w : World) (h : TxHeader) (d : List ℕ) where
-  request-fit : (ring : Ring) (buffer : ℕ) → isUnfit w ≡ false → Requestable (w .state) (length (w .memory)) buffer h
-      → Sound (requested (w .state) ring buffer) (length (w .memory))
-      → isUnfit (requests w ring buffer h d .world) ≡ false
-  unfolding requests
-  request-fit ring buffer fit can sound =
-      subst (λ (k : ℕ). unfit (requested (w .state) ring buffer) (w .recorded) k ≡ false)
-      (sym (written-only (w .memory) (txArea (w .state .regs)) buffer (can .element) h d .size))
-      (fit-of (requested (w .state) ring buffer) (w .recorded) (length (w .memory)) sound
-      (flags-of (w .state) (w .recorded) (length (w .memory)) fit))
+request-fit : (w : World) (ring : Ring) (buffer : ℕ) (h : TxHeader) (d : List ℕ) → isUnfit w ≡ false
+    → Requestable (w .state) (length (w .memory)) buffer h
+    → Sound (requested (w .state) ring buffer) (length (w .memory))
+    → isUnfit (requests w ring buffer h d .world) ≡ false
+unfolding requests
+request-fit w ring buffer h d fit can sound =
+    subst (λ (k : ℕ). unfit (requested (w .state) ring buffer) (w .recorded) k ≡ false)
+    (sym (written-only (w .memory) (txArea (w .state .regs)) buffer (can .element) h d .size))
+    (fit-of (requested (w .state) ring buffer) (w .recorded) (length (w .memory)) sound
+    (flags-of (w .state) (w .recorded) (length (w .memory)) fit))
 
-  pub dedicated-fit : (buffer : ℕ) → first (dedicatedRefusals w buffer h (length d)) ≡ allowed
-      → isUnfit (requests w (w .state .shared) buffer h d .world) ≡ false
-  dedicated-fit buffer e =
-      let o = dedicated-open w buffer h (length d) e in
-      request-fit (w .state .shared) buffer (o .fit) (dedicated-requestable w h (length d) buffer o)
-      (dedicated-sound (w .state) (length (w .memory)) (open-sound w (o .fit)) buffer (o .number))
+pub dedicated-fit : (w : World) (buffer : ℕ) (h : TxHeader) (d : List ℕ)
+    → first (dedicatedRefusals w buffer h (length d)) ≡ allowed
+    → isUnfit (requests w (w .state .shared) buffer h d .world) ≡ false
+dedicated-fit w buffer h d e =
+    let o = dedicated-open w buffer h (length d) e in
+    request-fit w (w .state .shared) buffer h d (o .fit) (dedicated-requestable w buffer h (length d) e)
+    (dedicated-sound (w .state) (length (w .memory)) (open-sound w (o .fit)) buffer (o .number))
 
-  pub shared-fit : first (sharedRefusals w h (length d)) ≡ allowed
-      → isUnfit (requests w (sharedAfter (w .state)) (freeBuffer (w .state)) h d .world) ≡ false
-  shared-fit e =
-      let o = shared-open w h (length d) e in
-      request-fit (sharedAfter (w .state)) (freeBuffer (w .state)) (o .fit) (shared-requestable w h (length d) o)
-      (shared-sound (w .state) (length (w .memory)) (open-sound w (o .fit)) (o .number))
+pub shared-fit : (w : World) (h : TxHeader) (d : List ℕ) → first (sharedRefusals w h (length d)) ≡ allowed
+    → isUnfit (requests w (sharedAfter (w .state)) (freeBuffer (w .state)) h d .world) ≡ false
+shared-fit w h d e =
+    let o = shared-open w h (length d) e in
+    request-fit w (sharedAfter (w .state)) (freeBuffer (w .state)) h d (o .fit) (shared-requestable w h (length d) e)
+    (shared-sound (w .state) (length (w .memory)) (open-sound w (o .fit)) (o .number))
 
 -- ---- call 9
 

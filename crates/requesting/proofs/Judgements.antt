@@ -28,6 +28,7 @@ use Rattle.requesting.specs.Cancelling.{cancelRefusals}
 use Rattle.requesting.specs.Needs.{CanFindPlace}
 use Rattle.requesting.specs.Places.{freePlace, noneFree}
 use Rattle.requesting.specs.Requesting.{notDedicated, dedicatedRefusals, sharedRefusals}
+use Rattle.requesting.proofs.Places.{can-find}
 
 module _ (s : State) (r : Record) (mem : List ℕ) (b : Bool) (e : b ≡ unfit s r (length mem)) where
   sound : b ≡ false → Sound s (length mem)
@@ -137,7 +138,7 @@ module _ (s : State) (r : Record) (mem : List ℕ) (b : Bool) (e : b ≡ unfit s
     existing-small n buffer t l = omega (arith, sound z .legal .counted .together)
 
     pub can-look : CanFindPlace s
-    can-look = let h = sound z in record { few = h .legal .counted .together; bits = h .pending; ring = h .shared }
+    can-look = can-find s (length mem) (sound z)
 
 pub ruleset dedicateds = (dedicated-unfit, dedicated-malformed, dedicated-none, dedicated-taken, dedicated-free)
 

@@ -1,7 +1,7 @@
 -- What an accepted request writes: the element of its buffer, whole, and no other word.
 -- Assumes nothing.
 use Prim.Native.Nat.{ℕ, _+_, _≤_}
-use mathlib.Core.Path.{_≡_, subst}
+use mathlib.Core.Path.{_≡_, refl, subst}
 use mathlib.Core.List.{List, []}
 use native.Mathlib.Omega.{arith}
 use lib.ListN.{length}
@@ -26,7 +26,7 @@ use Rattle.requesting.specs.Needs.{Requestable}
 use Rattle.requesting.specs.Places.{freeBuffer, sharedAfter}
 use Rattle.requesting.specs.Promises.{StandsAlone, RequestsStand}
 use Rattle.requesting.specs.Requesting.{written, requests, dedicatedRefusals, sharedRefusals}
-use Rattle.requesting.proofs.Opens.{dedicated-open, shared-open, dedicated-requestable, shared-requestable}
+use Rattle.requesting.proofs.Opens.{dedicated-requestable, shared-requestable}
 
 module _ (mem : List ℕ) (a : Area) (buffer : ℕ) (p : HasPlace a buffer (length mem)) (h : TxHeader) (d : List ℕ) where
   -- the element has as many words as each of the area
@@ -46,52 +46,56 @@ module _ (mem : List ℕ) (a : Area) (buffer : ℕ) (p : HasPlace a buffer (leng
 
 -- ---- of the calls
 
-module _ (w : World) (h : TxHeader) (d : List ℕ) where
-  request-only : (ring : Ring) (buffer : ℕ) → Requestable (w .state) (length (w .memory)) buffer h
-      → OnlyIn (placeRange (txArea (w .state .regs)) buffer) (w .memory) (requests w ring buffer h d .world .memory)
-  unfolding requests
-  request-only ring buffer r = written-only (w .memory) (txArea (w .state .regs)) buffer (r .element) h d
+-- it answers the buffer
+pub request-answer : (w : World) (ring : Ring) (buffer : ℕ) (h : TxHeader) (d : List ℕ)
+    → requests w ring buffer h d .answer ≡ buffer
+unfolding requests
+request-answer w ring buffer h d = refl
 
-  pub dedicated-only : (buffer : ℕ) → first (dedicatedRefusals w buffer h (length d)) ≡ allowed
-      → OnlyIn (placeRange (txArea (w .state .regs)) buffer) (w .memory)
-      (requests w (w .state .shared) buffer h d .world .memory)
-  dedicated-only buffer e =
-      request-only (w .state .shared) buffer
-      (dedicated-requestable w h (length d) buffer (dedicated-open w buffer h (length d) e))
+request-only : (w : World) (ring : Ring) (buffer : ℕ) (h : TxHeader) (d : List ℕ)
+    → Requestable (w .state) (length (w .memory)) buffer h
+    → OnlyIn (placeRange (txArea (w .state .regs)) buffer) (w .memory) (requests w ring buffer h d .world .memory)
+unfolding requests
+request-only w ring buffer h d can = written-only (w .memory) (txArea (w .state .regs)) buffer (can .element) h d
 
-  pub shared-only : first (sharedRefusals w h (length d)) ≡ allowed
-      → OnlyIn (placeRange (txArea (w .state .regs)) (freeBuffer (w .state))) (w .memory)
-      (requests w (sharedAfter (w .state)) (freeBuffer (w .state)) h d .world .memory)
-  shared-only e =
-      request-only (sharedAfter (w .state)) (freeBuffer (w .state))
-      (shared-requestable w h (length d) (shared-open w h (length d) e))
+pub dedicated-only : (w : World) (buffer : ℕ) (h : TxHeader) (d : List ℕ)
+    → first (dedicatedRefusals w buffer h (length d)) ≡ allowed
+    → OnlyIn (placeRange (txArea (w .state .regs)) buffer) (w .memory)
+    (requests w (w .state .shared) buffer h d .world .memory)
+dedicated-only w buffer h d e =
+    request-only w (w .state .shared) buffer h d (dedicated-requestable w buffer h (length d) e)
 
-  -- where nothing is against a request, it stands in its buffer
-  stands : (rows : Refusals) (ring : Ring) (buffer : ℕ)
-      → (first rows ≡ allowed → Requestable (w .state) (length (w .memory)) buffer h) → (b : ℕ)
-      → let o = call w [] rows (requests w ring buffer h d) in
-      o .says ≡ answers b → StandsAlone (w .state .regs) (w .memory) (o .world .memory) b h d
-  unfolding requests
-  stands rows ring buffer can b =
-      call-cases w [] rows (requests w ring buffer h d)
-      (λ (o : Outcome ℕ). o .says ≡ answers b → StandsAlone (w .state .regs) (w .memory) (o .world .memory) b h d)
-      (λ n e. let z : _≡_ {A = ℕ} 0 1 = cc in absurd (omega arith))
-      (λ e said.
-      let same : buffer ≡ b = cc in
-      let p = can e .element in
-      subst
-      (λ (k : ℕ). StandsAlone (w .state .regs) (w .memory) (requests w ring buffer h d .world .memory) k h d) same
-      (record {
-        there = written-there (w .memory) (txArea (w .state .regs)) buffer p h d;
-        only = written-only (w .memory) (txArea (w .state .regs)) buffer p h d;
-      }))
+pub shared-only : (w : World) (h : TxHeader) (d : List ℕ) → first (sharedRefusals w h (length d)) ≡ allowed
+    → OnlyIn (placeRange (txArea (w .state .regs)) (freeBuffer (w .state))) (w .memory)
+    (requests w (sharedAfter (w .state)) (freeBuffer (w .state)) h d .world .memory)
+shared-only w h d e =
+    request-only w (sharedAfter (w .state)) (freeBuffer (w .state)) h d (shared-requestable w h (length d) e)
+
+-- where nothing is against a request, it stands in its buffer
+stands : (w : World) (rows : Refusals) (ring : Ring) (buffer : ℕ) (h : TxHeader) (d : List ℕ)
+    → (first rows ≡ allowed → Requestable (w .state) (length (w .memory)) buffer h) → (b : ℕ)
+    → let o = call w [] rows (requests w ring buffer h d) in
+    o .says ≡ answers b → StandsAlone (w .state .regs) (w .memory) (o .world .memory) b h d
+unfolding requests
+stands w rows ring buffer h d can b =
+    call-cases w [] rows (requests w ring buffer h d)
+    (λ (o : Outcome ℕ). o .says ≡ answers b → StandsAlone (w .state .regs) (w .memory) (o .world .memory) b h d)
+    (λ n e. let z : _≡_ {A = ℕ} 0 1 = cc in absurd (omega arith))
+    (λ e said.
+    let same : buffer ≡ b = cc in
+    let p = can e .element in
+    subst (λ (k : ℕ). StandsAlone (w .state .regs) (w .memory) (requests w ring buffer h d .world .memory) k h d) same
+    (record {
+      there = written-there (w .memory) (txArea (w .state .regs)) buffer p h d;
+      only = written-only (w .memory) (txArea (w .state .regs)) buffer p h d;
+    }))
 
 pub requests-stand : RequestsStand
 requests-stand = record {
   dedicated = λ w buffer h d.
-      stands w h d (dedicatedRefusals w buffer h (length d)) (w .state .shared) buffer
-      (λ e. dedicated-requestable w h (length d) buffer (dedicated-open w buffer h (length d) e));
+      stands w (dedicatedRefusals w buffer h (length d)) (w .state .shared) buffer h d
+      (dedicated-requestable w buffer h (length d));
   shared = λ w h d.
-      stands w h d (sharedRefusals w h (length d)) (sharedAfter (w .state)) (freeBuffer (w .state))
-      (λ e. shared-requestable w h (length d) (shared-open w h (length d) e));
+      stands w (sharedRefusals w h (length d)) (sharedAfter (w .state)) (freeBuffer (w .state)) h d
+      (shared-requestable w h (length d));
 }

@@ -28,7 +28,7 @@ use Rattle.requesting.specs.Cancelling.{cancelRefusals}
 use Rattle.requesting.specs.Needs.{Requestable, CanFindPlace, SharedRoom}
 use Rattle.requesting.specs.Places.{freePlace, noneFree, freeBuffer}
 use Rattle.requesting.specs.Requesting.{notDedicated, dedicatedRefusals, sharedRefusals}
-use Rattle.requesting.proofs.Places.{free-room}
+use Rattle.requesting.proofs.Places.{can-find, free-room}
 
 -- ---- call 7
 
@@ -105,8 +105,8 @@ open-sound w e = sound-of (w .state) (w .recorded) (length (w .memory)) e
 
 -- a frame that is not malformed can be written to a buffer that exists
 requestable : (w : World) (buffer : ℕ) (h : TxHeader) (bytes : ℕ) → isUnfit w ≡ false
-    → malformed (h .frame) bytes ≡ false
-    → buffer < txCount (w .state .regs) → Requestable (w .state) (length (w .memory)) buffer h
+    → malformed (h .frame) bytes ≡ false → buffer < txCount (w .state .regs)
+    → Requestable (w .state) (length (w .memory)) buffer h
 requestable w buffer h bytes fit formed l =
     let sound = open-sound w fit in
     record {
@@ -115,34 +115,34 @@ requestable w buffer h bytes fit formed l =
       frame = frame-fits (h .frame) bytes formed;
     }
 
-module _ (w : World) (h : TxHeader) (bytes : ℕ) where
-  pub dedicated-requestable : (buffer : ℕ) → DedicatedOpen w buffer h bytes
-      → Requestable (w .state) (length (w .memory)) buffer h
-  dedicated-requestable buffer o = requestable w buffer h bytes (o .fit) (o .formed) (omega (arith, o .number))
+pub dedicated-requestable : (w : World) (buffer : ℕ) (h : TxHeader) (bytes : ℕ)
+    → first (dedicatedRefusals w buffer h bytes) ≡ allowed → Requestable (w .state) (length (w .memory)) buffer h
+dedicated-requestable w buffer h bytes e =
+    let o = dedicated-open w buffer h bytes e in
+    requestable w buffer h bytes (o .fit) (o .formed) (omega (arith, o .number))
 
-  pub shared-requestable : SharedOpen w h bytes → Requestable (w .state) (length (w .memory)) (freeBuffer (w .state)) h
-  shared-requestable o = requestable w (freeBuffer (w .state)) h bytes (o .fit) (o .formed) (omega (arith, o .number))
+pub shared-requestable : (w : World) (h : TxHeader) (bytes : ℕ) → first (sharedRefusals w h bytes) ≡ allowed
+    → Requestable (w .state) (length (w .memory)) (freeBuffer (w .state)) h
+shared-requestable w h bytes e =
+    let o = shared-open w h bytes e in
+    requestable w (freeBuffer (w .state)) h bytes (o .fit) (o .formed) (omega (arith, o .number))
 
 -- ---- the same, of what was judged
 
 module _ (s : State) (r : Record) (mem : List ℕ) (j : Judged) (y : j ≡ Allowed) where
   pub dedicated-can : (buffer : ℕ) (h : TxHeader) (len : ℕ)
       → ruled j ≡ first (dedicatedRefusals (world s r mem) buffer h len) → Requestable s (length mem) buffer h
-  dedicated-can buffer h len e =
-      dedicated-requestable (world s r mem) h len buffer
-      (dedicated-open (world s r mem) buffer h len (sym e ∙ ap ruled y))
+  dedicated-can buffer h len e = dedicated-requestable (world s r mem) buffer h len (sym e ∙ ap ruled y)
 
   module _ (h : TxHeader) (len : ℕ) (e : ruled j ≡ first (sharedRefusals (world s r mem) h len)) where
+    pub shared-can : (buffer : ℕ) → buffer ≡ freeBuffer s → Requestable s (length mem) buffer h
+    shared-can buffer q = rw q (shared-requestable (world s r mem) h len (sym e ∙ ap ruled y))
+
     is-open : SharedOpen (world s r mem) h len
     is-open = shared-open (world s r mem) h len (sym e ∙ ap ruled y)
 
-    pub shared-can : (buffer : ℕ) → buffer ≡ freeBuffer s → Requestable s (length mem) buffer h
-    shared-can buffer q = rw q (shared-requestable (world s r mem) h len is-open)
-
     pub shared-look : CanFindPlace s
-    shared-look =
-        let sound = open-sound (world s r mem) (is-open .fit) in
-        record { few = sound .legal .counted .together; bits = sound .pending; ring = sound .shared }
+    shared-look = can-find s (length mem) (open-sound (world s r mem) (is-open .fit))
 
     pub shared-room : SharedRoom s
     shared-room = record {

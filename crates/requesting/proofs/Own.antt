@@ -21,7 +21,7 @@ use Rattle.requesting.specs.Promises.{OwnSectionsAlone}
 use Rattle.requesting.specs.Requesting.{written, requests, dedicatedRefusals, requestDedicated, sharedRefusals}
 use Rattle.requesting.specs.Requesting.{requestShared}
 use Rattle.requesting.proofs.Memory.{element-room}
-use Rattle.requesting.proofs.Opens.{dedicated-open, shared-open, dedicated-requestable, shared-requestable}
+use Rattle.requesting.proofs.Opens.{dedicated-requestable, shared-requestable}
 
 module _ (sections : Range) (w : World) (other : List ℕ)
     (same : SameSections (w .state .regs) sections (w .memory) other) where
@@ -50,9 +50,7 @@ module _ (sections : Range) (w : World) (other : List ℕ)
       call-alike sections w other [] same (dedicatedRefusals w buffer h (length d))
       (dedicatedRefusals (withMemory w other) buffer h (length d)) _ _
       (simp (same .size))
-      (λ e.
-      request-alike (w .state .shared) buffer h d
-      (dedicated-requestable w h (length d) buffer (dedicated-open w buffer h (length d) e)))
+      (λ e. request-alike (w .state .shared) buffer h d (dedicated-requestable w buffer h (length d) e))
 
   pub shared-alike : (h : TxHeader) (d : List ℕ)
       → Alike sections (requestShared w h d) (requestShared (withMemory w other) h d)
@@ -63,7 +61,7 @@ module _ (sections : Range) (w : World) (other : List ℕ)
       (simp (same .size))
       (λ e.
       request-alike (sharedAfter (w .state)) (freeBuffer (w .state)) h d
-      (shared-requestable w h (length d) (shared-open w h (length d) e)))
+      (shared-requestable w h (length d) e))
 
   pub cancel-alike : (buffer : ℕ) → Alike sections (cancel w buffer) (cancel (withMemory w other) buffer)
   unfolding cancelRefusals

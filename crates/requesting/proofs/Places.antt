@@ -20,10 +20,11 @@ use Rattle.ring.specs.declared.Ring.{Ring}
 use Rattle.ring.proofs.Circle.{place-lt}
 use Rattle.registers.specs.Fields.{dedicated, shared, isQueue}
 use Rattle.engine.specs.Buffers.{isPending}
+use Rattle.engine.specs.Fitness.{Sound}
 use Rattle.engine.specs.declared.state.State.{State}
 use Rattle.engine.proofs.Cases.{fifo-ring}
 use Rattle.requesting.specs.Needs.{QueueFits, CanFindPlace, SharedRoom}
-use Rattle.requesting.specs.Places.{queuePlace, freePlace, sharedAfter}
+use Rattle.requesting.specs.Places.{queuePlace, fifoPlace, freePlace, sharedAfter}
 
 -- ---- a queue's, of plain numbers
 
@@ -83,77 +84,76 @@ module _ (pending dedicated shared : ℕ) (f : QueueFits pending dedicated share
 -- ---- a FIFO's
 
 module _ (q : Ring) (size : ℕ) where
-  pub put-free : (p : ℕ) → q .fill < size → p ≡ putPlace q size → p ≡ pick (ltb (q .fill) size) (putPlace q size) size
+  pub put-free : (p : ℕ) → q .fill < size → p ≡ putPlace q size → p ≡ fifoPlace q size
+  unfolding fifoPlace
   put-free p h e = e ∙ sym (pick-first (putPlace q size) size (lt-ltb _ _ h))
 
-  pub put-none : size ≤ q .fill → size ≡ pick (ltb (q .fill) size) (putPlace q size) size
+  pub put-none : size ≤ q .fill → size ≡ fifoPlace q size
+  unfolding fifoPlace
   put-none h = sym (pick-second (putPlace q size) size (le-ltb _ _ h))
+
+  -- what is shown of both is shown of it
+  fifo-ways : (P : ℕ → Type 0) → (q .fill < size → P (putPlace q size)) → P size → P (fifoPlace q size)
+  unfolding fifoPlace
+  fifo-ways P put none = go (ltb (q .fill) size) refl
+    where
+      go : (t : Bool) → ltb (q .fill) size ≡ t → P (pick t (putPlace q size) size)
+      go true e = put (ltb-true (q .fill) size e)
+      go false e = none
 
 -- ---- of a state
 
-module _ (s : State) (n : ℕ) (h : CanFindPlace s) (e : n ≡ shared (s .regs)) (b : Bool) (q : b ≡ isQueue (s .regs))
-  where
-    pub queue-fits : (m : ℕ) → m ≡ dedicated (s .regs) → QueueFits (s .pending) m n
-    queue-fits m t = rw (t, e) (record { few = h .few; bits = h .bits })
+pub can-find : (s : State) (words : ℕ) → Sound s words → CanFindPlace s
+can-find s words h = record { few = h .legal .counted .together; bits = h .pending; ring = h .shared }
 
-    pub queue-found : b ≡ true → (m p : ℕ) → m ≡ dedicated (s .regs) → p ≡ queuePlace (s .pending) m n → p ≡ freePlace s
-    unfolding freePlace queuePlace
-    queue-found y m p t u = u ∙ simp (e, t, ← q, y)
+module _ (s : State) (n : ℕ) (h : CanFindPlace s) (e : n ≡ shared (s .regs)) (b : Bool)
+    (q : b ≡ isQueue (s .regs)) where
+  pub queue-fits : (m : ℕ) → m ≡ dedicated (s .regs) → QueueFits (s .pending) m n
+  queue-fits m t = rw (t, e) (record { few = h .few; bits = h .bits })
 
-    pub fifo-fits : b ≡ false → Fit (s .shared) n
-    fifo-fits z = rw (fifo-ring (s .regs) b q z n e) (h .ring)
+  pub queue-found : b ≡ true → (m p : ℕ) → m ≡ dedicated (s .regs) → p ≡ queuePlace (s .pending) m n → p ≡ freePlace s
+  unfolding freePlace
+  queue-found y m p t u = u ∙ simp (e, t, ← q, y)
 
-    pub fifo-found : b ≡ false → (p : ℕ) → p ≡ pick (ltb (s .shared .fill) n) (putPlace (s .shared) n) n → p ≡ freePlace s
-    unfolding freePlace
-    fifo-found z p u = u ∙ simp (e, ← q, z)
+  pub fifo-fits : b ≡ false → Fit (s .shared) n
+  fifo-fits z = rw (fifo-ring (s .regs) b q z n e) (h .ring)
+
+  pub fifo-found : b ≡ false → (p : ℕ) → p ≡ fifoPlace (s .shared) n → p ≡ freePlace s
+  unfolding freePlace
+  fifo-found z p u = u ∙ simp (e, ← q, z)
 
 -- the two ways of a free place
 module _ (s : State) where
   pub free-queue : isQueue (s .regs) ≡ true
       → freePlace s ≡ leastFrom (λ p. not (isPending s (dedicated (s .regs) + p))) 0 (shared (s .regs))
-  unfolding freePlace
-  free-queue e =
-      pick-first _
-      (pick (ltb (s .shared .fill) (shared (s .regs))) (putPlace (s .shared) (shared (s .regs))) (shared (s .regs))) e
+  unfolding freePlace queuePlace
+  free-queue e = pick-first _ (fifoPlace (s .shared) (shared (s .regs))) e
 
-  pub free-fifo : isQueue (s .regs) ≡ false
-      → freePlace s ≡ pick (ltb (s .shared .fill) (shared (s .regs))) (putPlace (s .shared) (shared (s .regs)))
-      (shared (s .regs))
+  pub free-fifo : isQueue (s .regs) ≡ false → freePlace s ≡ fifoPlace (s .shared) (shared (s .regs))
   unfolding freePlace
-  free-fifo e = pick-second (leastFrom (λ p. not (isPending s (dedicated (s .regs) + p))) 0 (shared (s .regs))) _ e
+  free-fifo e = pick-second (queuePlace (s .pending) (dedicated (s .regs)) (shared (s .regs))) _ e
 
   -- where the place is one, a FIFO is not full, and it is the put place
   pub free-room : isQueue (s .regs) ≡ false → freePlace s < shared (s .regs)
       → (s .shared .fill < shared (s .regs)) × (freePlace s ≡ putPlace (s .shared) (shared (s .regs)))
-  free-room e h = go (ltb (s .shared .fill) (shared (s .regs))) refl
-    where
-      put : ℕ
-      put = putPlace (s .shared) (shared (s .regs))
-
-      go : (t : Bool) → ltb (s .shared .fill) (shared (s .regs)) ≡ t
-          → (s .shared .fill < shared (s .regs)) × (freePlace s ≡ put)
-      go true y = (ltb-true (s .shared .fill) (shared (s .regs)) y, free-fifo e ∙ pick-first put (shared (s .regs)) y)
-      go false n = absurd (omega (arith, free-fifo e ∙ pick-second put (shared (s .regs)) n))
+  free-room e h =
+      fifo-ways (s .shared) (shared (s .regs))
+      (λ (p : ℕ). freePlace s ≡ p
+      → (s .shared .fill < shared (s .regs)) × (freePlace s ≡ putPlace (s .shared) (shared (s .regs))))
+      (λ l q. (l, q)) (λ q. absurd (omega arith)) (free-fifo e)
 
   -- it is at most their number
   pub free-most : freePlace s ≤ shared (s .regs)
-  unfolding freePlace
-  free-most = go (isQueue (s .regs)) (ltb (s .shared .fill) (shared (s .regs))) refl
+  free-most = go (isQueue (s .regs)) refl
     where
-      put : ℕ
-      put = putPlace (s .shared) (shared (s .regs))
-
-      low : ℕ
-      low = leastFrom (λ p. not (isPending s (dedicated (s .regs) + p))) 0 (shared (s .regs))
-
-      go : (a b : Bool) → ltb (s .shared .fill) (shared (s .regs)) ≡ b
-          → pick a low (pick b put (shared (s .regs))) ≤ shared (s .regs)
-      go true b e =
-          omega (arith, least-within (λ p. not (isPending s (dedicated (s .regs) + p))) 0 (shared (s .regs)))
-      go false true e =
-          let h = ltb-true (s .shared .fill) (shared (s .regs)) e in
-          omega (arith, place-lt (s .shared) (shared (s .regs)) (s .shared .fill) (omega arith))
-      go false false e = omega arith
+      go : (t : Bool) → isQueue (s .regs) ≡ t → freePlace s ≤ shared (s .regs)
+      go true e =
+          omega
+          (arith, free-queue e, least-within (λ p. not (isPending s (dedicated (s .regs) + p))) 0 (shared (s .regs)))
+      go false e =
+          fifo-ways (s .shared) (shared (s .regs)) (λ (p : ℕ). freePlace s ≡ p → freePlace s ≤ shared (s .regs))
+          (λ l q. omega (arith, place-lt (s .shared) (shared (s .regs)) (s .shared .fill) (omega arith)))
+          (λ q. omega arith) (free-fifo e)
 
   pub buffer-sum : (m p : ℕ) → m ≡ dedicated (s .regs) → p ≡ freePlace s → Fits w32 (m + p)
   buffer-sum m p e q = record { fits = omega (arith, free-most) }

@@ -8,7 +8,6 @@ use Rattle.words.specs.Least.{leastFrom}
 use Rattle.ring.specs.Rings.{putPlace, pushed}
 use Rattle.ring.specs.declared.Ring.{Ring}
 use Rattle.registers.specs.Fields.{dedicated, shared, isQueue}
-use Rattle.engine.specs.Buffers.{isPending}
 use Rattle.engine.specs.States.{withTx}
 use Rattle.engine.specs.declared.state.State.{State}
 
@@ -20,13 +19,20 @@ requested s ring buffer =
     (withoutBit 32 (s .sent) buffer)
     (withoutBit 32 (s .cancelled) buffer)
 
--- the place in the shared part that a request takes, or their number where none is free:
--- of a queue the first buffer without a request, of a FIFO with room its put place
+-- of a queue, the first place after the dedicated buffers whose pending bit is clear, or how many there are
+unfoldable pub queuePlace : ℕ → ℕ → ℕ → ℕ
+queuePlace pending dedicated shared = leastFrom (λ p. not (isSet pending (dedicated + p))) 0 shared
+
+-- of a FIFO, its put place, or its size where it is full
+unfoldable pub fifoPlace : Ring → ℕ → ℕ
+fifoPlace q size = pick (ltb (q .fill) size) (putPlace q size) size
+
+-- the place in the shared part that a request takes, or how many there are where none is free
 unfoldable pub freePlace : State → ℕ
 freePlace s =
     pick (isQueue (s .regs))
-    (leastFrom (λ p. not (isPending s (dedicated (s .regs) + p))) 0 (shared (s .regs)))
-    (pick (ltb (s .shared .fill) (shared (s .regs))) (putPlace (s .shared) (shared (s .regs))) (shared (s .regs)))
+    (queuePlace (s .pending) (dedicated (s .regs)) (shared (s .regs)))
+    (fifoPlace (s .shared) (shared (s .regs)))
 
 -- 25: no shared buffer is free, or none exist
 abbrev pub noneFree : State → Bool
@@ -35,10 +41,6 @@ noneFree s = leb (shared (s .regs)) (freePlace s)
 -- the buffer at that place
 abbrev pub freeBuffer : State → ℕ
 freeBuffer s = dedicated (s .regs) + freePlace s
-
--- a queue's place, of plain numbers: the lowest that is clear of the pending bits after the dedicated ones
-unfoldable pub queuePlace : ℕ → ℕ → ℕ → ℕ
-queuePlace pending dedicated shared = leastFrom (λ p. not (isSet pending (dedicated + p))) 0 shared
 
 -- the shared ring after a request: a FIFO's has one more, a queue has none
 abbrev pub sharedAfter : State → Ring

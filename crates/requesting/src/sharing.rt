@@ -3,15 +3,12 @@ use engine::state::State;
 use ring::Ring;
 use words::bits32;
 ghost use mathlib.Core.Path.{_≡_};
-ghost use Prim.Native.Nat.{_+_};
-ghost use lib.Dec.{ltb};
-ghost use Rattle.words.specs.Choice.{pick};
-ghost use Rattle.ring.specs.Rings.{Fit, putPlace};
+ghost use Rattle.ring.specs.Rings.{Fit};
 ghost use Rattle.requesting.specs.Needs.{QueueFits, CanFindPlace, SharedRoom};
-ghost use Rattle.requesting.specs.Places.{queuePlace, freePlace, freeBuffer, sharedAfter};
+ghost use Rattle.requesting.specs.Places.{queuePlace, fifoPlace, freePlace, freeBuffer, sharedAfter};
 
-// A queue's lowest-numbered buffer that is not pending, or their number: the trailing zeros of the complemented pending
-// word.
+// A queue's lowest-numbered buffer that is not pending, or how many there are: the trailing zeros of the complemented
+// pending word.
 fn queue_place(pending: u32, dedicated: u32, shared: u32) -> u32
     requires { ⌜ QueueFits pending dedicated shared ⌝ }
     ensures { λ p. ⌜ p ≡ queuePlace pending dedicated shared ⌝ }
@@ -26,7 +23,7 @@ fn queue_place(pending: u32, dedicated: u32, shared: u32) -> u32
 // A FIFO's put place while it is not full, or its size.
 fn fifo_place(q: Ring, size: u32) -> u32
     requires { ⌜ Fit q size ⌝ }
-    ensures { λ p. ⌜ p ≡ pick (ltb (q .fill) size) (putPlace q size) size ⌝ }
+    ensures { λ p. ⌜ p ≡ fifoPlace q size ⌝ }
 {
     if q.fill < size {
         return ring::put_place(q, size);
@@ -34,7 +31,7 @@ fn fifo_place(q: Ring, size: u32) -> u32
     size
 }
 
-// The place in the shared part that a request takes, or their number where none is free.
+// The place in the shared part that a request takes, or how many there are where none is free.
 pub fn free_place(s: State) -> u32
     requires { ⌜ CanFindPlace s ⌝ }
     ensures { λ p. ⌜ p ≡ freePlace s ⌝ }
