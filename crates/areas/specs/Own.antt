@@ -1,4 +1,5 @@
--- The words of an engine's own sections, by section: 0 and 1 the filter lists, 2 and 3 the FIFOs, 4 Rx buffers, 5 events, 6 Tx buffers.
+-- The words of an engine's own sections, by section: 0 and 1 the filter lists, 2 and 3 the FIFOs, 4 Rx buffers, 5
+-- events, 6 Tx buffers.
 use Prim.Native.Nat.{ℕ}
 use mathlib.Core.Path.{_≡_}
 use mathlib.Core.List.{List, [], _∷_}
@@ -15,7 +16,8 @@ own g i =
     getD (fifoArea g 0 ∷ fifoArea g 1 ∷ bufferArea g ∷ eventArea g ∷ txArea g ∷ []) i
     (record { start = record { 0 = 0 }; count = 0; each = 0 })
 
--- the sections that a receive and the reads of frames go by; those that sending goes by; and those that a call may write
+-- the sections that a receive and the reads of frames go by; those that sending goes by; and those that a call may
+-- write
 abbrev pub receivingSections : Range
 receivingSections = range 0 5
 

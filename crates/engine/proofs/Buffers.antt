@@ -1,4 +1,5 @@
--- Tx buffers: a sound state stays sound with a pending bit set or cleared, as long as the shared FIFO's bits are those of its places.
+-- Tx buffers: a sound state stays sound with a pending bit set or cleared, as long as the shared FIFO's bits are
+-- those of its places.
 -- Assumes nothing.
 use Prim.Native.Nat.{ℕ, _+_, _^_, _<_}
 use mathlib.Core.Path.{_≡_, refl, sym, ap, _∙_}
@@ -96,7 +97,9 @@ module _ (s : State) (words : ℕ) (h : Sound s words) where
     module _ (buffer : ℕ) (l : buffer < txCount (s .regs)) where
       -- a request: its pending bit is set, and the two others are cleared
       pub set-sound : Matches (λ b. isPending s b || eqb b buffer)
-          → Sound (withTx s q (withBit (s .pending) buffer) (withoutBit 32 (s .sent) buffer) (withoutBit 32 (s .cancelled) buffer)) words
+          → Sound
+          (withTx s q (withBit (s .pending) buffer) (withoutBit 32 (s .sent) buffer)
+          (withoutBit 32 (s .cancelled) buffer)) words
       set-sound m =
           tx-sound (withBit (s .pending) buffer) (withoutBit 32 (s .sent) buffer) (withoutBit 32 (s .cancelled) buffer)
           (set-lt (txCount (s .regs)) (s .pending) buffer (h .pending) l)
@@ -111,7 +114,8 @@ module _ (s : State) (words : ℕ) (h : Sound s words) where
       clear-sound sent cancelled a b m =
           tx-sound (withoutBit 32 (s .pending) buffer) sent cancelled
           (clear-lt (s .pending) buffer (txCount (s .regs)) (h .pending)) a b
-          (λ p k. clear-test (s .pending) buffer (dedicated (s .regs) + p) (buffer-small buffer l) (place-small p k) ∙ m p k)
+          (λ p k.
+          clear-test (s .pending) buffer (dedicated (s .regs) + p) (buffer-small buffer l) (place-small p k) ∙ m p k)
 
   -- a buffer that is not in the shared FIFO leaves its places as they are
   pub kept-bits : (buffer : ℕ) → inSharedFifo s buffer ≡ false → (p : ℕ) → p < sharedRingSize (s .regs)

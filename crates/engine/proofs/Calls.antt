@@ -31,7 +31,8 @@ pub row-refuses : {t : Bool} (n : ℕ) (rows : Refusals) → t ≡ true → firs
 row-refuses n rows e = halted (first rows) (turned-down (plain n) e)
 
 -- none applies: not the first, and none of the others
-pub row-off : (n : ℕ) (t : Bool) (rows : Refusals) → first (n when t ∷ rows) ≡ allowed → (t ≡ false) × (first rows ≡ allowed)
+pub row-off : (n : ℕ) (t : Bool) (rows : Refusals) → first (n when t ∷ rows) ≡ allowed
+    → (t ≡ false) × (first rows ≡ allowed)
 row-off n t rows e = let p = both-allowed (n when t) (first rows) e in (held-off t (plain n) (p .0), p .1)
 
 -- ---- 30
@@ -62,7 +63,8 @@ judged-then xs ys i j p q = q ∙ ap (λ (v : Ruling Told). v orElse first ys) p
 
 -- ---- a function that judges first
 
-module _ {A : Type 0} (w : World) (out : List ℕ) (rows : Refusals) (e : Effect A) (j : Judged) (t : ruled j ≡ first rows) where
+module _ {A : Type 0} (w : World) (out : List ℕ) (rows : Refusals) (e : Effect A) (j : Judged)
+    (t : ruled j ≡ first rows) where
   pub judged-refused : (n : Refusal) → j ≡ Refused n → outcome (refuses (told n)) w out ≡ call w out rows e
   judged-refused n y = sym (call-refused w out rows e (told n) (sym t ∙ ap ruled y))
 

@@ -38,8 +38,11 @@ can-look s size p c e h = record { ring = c .ring; bit = omega (arith, shared-mo
 
 -- ---- the four rings
 
-module _ (s : State) (n0 n1 n2 n3 : ℕ) (e0 : n0 ≡ bits 22 16 (s .regs .rxf0c .word)) (e1 : n1 ≡ bits 22 16 (s .regs .rxf1c .word)) (e2 : n2 ≡ eventSize (s .regs)) (e3 : n3 ≡ sharedRingSize (s .regs)) where
-  pub rings-tested : (a b c d : Bool) → a ≡ fits (s .fifo0) n0 → b ≡ fits (s .fifo1) n1 → c ≡ fits (s .events) n2 → d ≡ fits (s .shared) n3
-      → (not a || not b || not c || not d) ≡ ringsUnfit s
-  unfolding fifoWord
-  rings-tested a b c d p q t u = simp (p, q, t, u, e0, e1, e2, e3)
+module _ (s : State) (n0 n1 n2 n3 : ℕ) (e0 : n0 ≡ bits 22 16 (s .regs .rxf0c .word))
+    (e1 : n1 ≡ bits 22 16 (s .regs .rxf1c .word)) (e2 : n2 ≡ eventSize (s .regs)) (e3 : n3 ≡ sharedRingSize (s .regs))
+  where
+    pub rings-tested : (a b c d : Bool) → a ≡ fits (s .fifo0) n0 → b ≡ fits (s .fifo1) n1 → c ≡ fits (s .events) n2
+        → d ≡ fits (s .shared) n3
+        → (not a || not b || not c || not d) ≡ ringsUnfit s
+    unfolding fifoWord
+    rings-tested a b c d p q t u = simp (p, q, t, u, e0, e1, e2, e3)

@@ -11,14 +11,15 @@ use Rattle.places.specs.declared.Slot.the-variants.{At, Lost}
 use Rattle.places.specs.declared.Taken.{Taken}
 use Rattle.places.proofs.Takes.{take-cases, taken-within}
 use Rattle.engine.specs.Flags.{raised, filling}
-use Rattle.engine.specs.Keeping.{slotFlags, keptFlags, keepRule}
+use Rattle.engine.specs.Keeping.{keptFlags, keepRule}
 use Rattle.engine.specs.Needs.{CanKeep}
 use Rattle.engine.specs.declared.keeping.Keeper.{Keeper}
 use Rattle.engine.specs.declared.keeping.Kept.{Kept}
 use Rattle.engine.specs.declared.state.Record.{Record}
 
 module _ (k : Keeper) (fill : ℕ) (slot : Slot) (r n : Record) where
-  pub flags-rose : fill < k .size → n ≡ filling r (k .first) (fill + 1) (k .mark) (k .size) → n ≡ keptFlags k fill slot r
+  pub flags-rose : fill < k .size → n ≡ filling r (k .first) (fill + 1) (k .mark) (k .size)
+      → n ≡ keptFlags k fill slot r
   unfolding keptFlags
   flags-rose h e = simp (lt-ltb _ _ h, e)
 
@@ -46,9 +47,14 @@ losing k q r = record { slot = Lost; ring = q; recorded = raised r (k .first + 3
 -- what is shown of every case is shown of what is kept
 module _ (k : Keeper) (q : Ring) (r : Record) (P : Kept → Type 0)
     (put : q .fill < k .size
-    → P (record { slot = At (putPlace q (k .size)); ring = pushed q; recorded = filling r (k .first) (q .fill + 1) (k .mark) (k .size) }))
+    → P (record {
+      slot = At (putPlace q (k .size));
+      ring = pushed q;
+      recorded = filling r (k .first) (q .fill + 1) (k .mark) (k .size);
+    }))
     (lost : P (losing k q r))
-    (over : 0 < k .size → P (record { slot = At (q .oldest); ring = overwritten q (k .size); recorded = raised r (k .first) })) where
+    (over : 0 < k .size
+    → P (record { slot = At (q .oldest); ring = overwritten q (k .size); recorded = raised r (k .first) })) where
   pub keep-cases : P (keepRule k q r)
   unfolding keepRule keptFlags
   keep-cases =
@@ -68,6 +74,7 @@ unfolding keepRule
 kept-ring k q r = refl
 
 -- a slot's place is one of the ring's
-pub kept-within : (k : Keeper) (q : Ring) (r : Record) → CanKeep k q → (p : ℕ) → keepRule k q r .slot ≡ At p → p < k .size
+pub kept-within : (k : Keeper) (q : Ring) (r : Record) → CanKeep k q → (p : ℕ) → keepRule k q r .slot ≡ At p
+    → p < k .size
 unfolding keepRule
 kept-within k q r h p e = taken-within (k .size) (k .overwrites) q (h .ring) p e

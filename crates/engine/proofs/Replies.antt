@@ -8,7 +8,9 @@ use Rattle.shape.specs.Calls.{Says, refuses, answers}
 use Rattle.engine.specs.Answers.{numberOf, replied}
 use Rattle.engine.specs.Promises.{OneReply}
 use Rattle.engine.specs.declared.refusals.Refusal.{Refusal}
-use Rattle.engine.specs.declared.refusals.Refusal.the-variants.{Unfit, Malformed, FdOff, NoSuch, AlreadyPending, NoneFree, InSharedFifo, NotPending, NotTheChoice, NotHeld, WrongOutput}
+use Rattle.engine.specs.declared.refusals.Refusal.the-variants.{Unfit, Malformed, FdOff, NoSuch, AlreadyPending}
+use Rattle.engine.specs.declared.refusals.Refusal.the-variants.{NoneFree, InSharedFifo, NotPending, NotTheChoice}
+use Rattle.engine.specs.declared.refusals.Refusal.the-variants.{NotHeld, WrongOutput}
 use Rattle.engine.specs.declared.refusals.Reply.{Reply}
 use Rattle.engine.specs.declared.refusals.Reply.the-variants.{Done, Refused}
 

@@ -27,7 +27,8 @@ use Rattle.layout.specs.Verdict.{meaning, verdict}
 use Rattle.layout.specs.declared.check.Verdict.{Verdict}
 use Rattle.layout.proofs.Accepted.{accepted-is-legal}
 use Rattle.registers.specs.Fields.{fifoWord, fifoSize, eventSize, dedicated, shared, txCount}
-use Rattle.engine.specs.Fitness.{registersUnfit, sharedRingSize, ringsUnfit, past, bitsUnfit, differs, sharedUnfit, flagFields, flagsUnfit, unfit, Sound, FlagsSound}
+use Rattle.engine.specs.Fitness.{registersUnfit, sharedRingSize, ringsUnfit, past, bitsUnfit, differs}
+use Rattle.engine.specs.Fitness.{sharedUnfit, flagFields, flagsUnfit, unfit, Sound, FlagsSound}
 use Rattle.engine.specs.Needs.{SharedCan}
 use Rattle.engine.specs.Promises.{FitIsSound}
 use Rattle.engine.specs.States.{fifoRing}
@@ -69,11 +70,18 @@ bit-same false false e = refl
 
 module _ (s : State) where
   rings-of : ringsUnfit s ≡ false
-      → Fit (s .fifo0) (fifoSize (s .regs) 0) × Fit (s .fifo1) (fifoSize (s .regs) 1) × Fit (s .events) (eventSize (s .regs)) × Fit (s .shared) (sharedRingSize (s .regs))
+      → Fit (s .fifo0) (fifoSize (s .regs) 0) × Fit (s .fifo1) (fifoSize (s .regs) 1) × Fit (s .events)
+      (eventSize (s .regs)) × Fit (s .shared) (sharedRingSize (s .regs))
   rings-of e =
-      let d = or-neither (not (fits (s .fifo0) (fifoSize (s .regs) 0)) || not (fits (s .fifo1) (fifoSize (s .regs) 1)) || not (fits (s .events) (eventSize (s .regs)))) (not (fits (s .shared) (sharedRingSize (s .regs)))) e in
-      let c = or-neither (not (fits (s .fifo0) (fifoSize (s .regs) 0)) || not (fits (s .fifo1) (fifoSize (s .regs) 1))) (not (fits (s .events) (eventSize (s .regs)))) (d .0) in
-      let b = or-neither (not (fits (s .fifo0) (fifoSize (s .regs) 0))) (not (fits (s .fifo1) (fifoSize (s .regs) 1))) (c .0) in (
+      let d =
+      or-neither
+      (not (fits (s .fifo0) (fifoSize (s .regs) 0)) || not (fits (s .fifo1) (fifoSize (s .regs) 1)) || not
+      (fits (s .events) (eventSize (s .regs)))) (not (fits (s .shared) (sharedRingSize (s .regs)))) e in
+      let c =
+      or-neither (not (fits (s .fifo0) (fifoSize (s .regs) 0)) || not (fits (s .fifo1) (fifoSize (s .regs) 1)))
+      (not (fits (s .events) (eventSize (s .regs)))) (d .0) in
+      let b =
+      or-neither (not (fits (s .fifo0) (fifoSize (s .regs) 0))) (not (fits (s .fifo1) (fifoSize (s .regs) 1))) (c .0) in (
         fit-tested (s .fifo0) (fifoSize (s .regs) 0) (omega arith) (b .0),
         fit-tested (s .fifo1) (fifoSize (s .regs) 1) (omega arith) (b .1),
         fit-tested (s .events) (eventSize (s .regs)) (omega arith) (c .1),
@@ -81,30 +89,46 @@ module _ (s : State) where
       )
 
   -- the shared places can be looked at where the layout is accepted and the rings fit
-  pub shared-can : (words : ℕ) (v : Verdict) → meaning v ≡ verdict memoryWords (s .regs) words → (a b : Bool) → a ≡ isAllowed (meaning v) → a ≡ true → b ≡ ringsUnfit s → b ≡ false → SharedCan s
+  pub shared-can : (words : ℕ) (v : Verdict) → meaning v ≡ verdict memoryWords (s .regs) words → (a b : Bool)
+      → a ≡ isAllowed (meaning v) → a ≡ true → b ≡ ringsUnfit s → b ≡ false → SharedCan s
   shared-can words v e a b t y q n = record {
     ring = rings-of (sym q ∙ n) .3;
-    few = accepted-is-legal memoryWords (s .regs) words .0 (is-allowed (verdict memoryWords (s .regs) words) (sym (t ∙ ap isAllowed e) ∙ y)) .counted .together;
+    few =
+        accepted-is-legal memoryWords (s .regs) words .0
+        (is-allowed (verdict memoryWords (s .regs) words) (sym (t ∙ ap isAllowed e) ∙ y)) .counted .together;
   }
 
-  held-of : sharedUnfit s ≡ false → (p : ℕ) → p < sharedRingSize (s .regs) → isSet (s .pending) (dedicated (s .regs) + p) ≡ held (s .shared) (sharedRingSize (s .regs)) p
+  held-of : sharedUnfit s ≡ false → (p : ℕ) → p < sharedRingSize (s .regs)
+      → isSet (s .pending) (dedicated (s .regs) + p) ≡ held (s .shared) (sharedRingSize (s .regs)) p
   unfolding sharedUnfit
   held-of e p h =
       same-bit (held (s .shared) (sharedRingSize (s .regs)) p) (isSet (s .pending) (dedicated (s .regs) + p))
-      (least-below (differs s) 0 (sharedRingSize (s .regs)) p (omega arith) (omega (arith, ltb-false (leastFrom (differs s) 0 (sharedRingSize (s .regs))) (sharedRingSize (s .regs)) e)))
+      (least-below (differs s) 0 (sharedRingSize (s .regs)) p (omega arith)
+      (omega (arith, ltb-false (leastFrom (differs s) 0 (sharedRingSize (s .regs))) (sharedRingSize (s .regs)) e)))
 
-  of-held : ((p : ℕ) → p < sharedRingSize (s .regs) → isSet (s .pending) (dedicated (s .regs) + p) ≡ held (s .shared) (sharedRingSize (s .regs)) p) → sharedUnfit s ≡ false
+  of-held
+      : ((p : ℕ) → p < sharedRingSize (s .regs)
+      → isSet (s .pending) (dedicated (s .regs) + p) ≡ held (s .shared) (sharedRingSize (s .regs)) p)
+      → sharedUnfit s ≡ false
   unfolding sharedUnfit
   of-held f =
       le-ltb (leastFrom (differs s) 0 (sharedRingSize (s .regs))) (sharedRingSize (s .regs))
-      (omega (arith, least-absent (differs s) 0 (sharedRingSize (s .regs)) (λ p a b. bit-same (held (s .shared) (sharedRingSize (s .regs)) p) (isSet (s .pending) (dedicated (s .regs) + p)) (f p (omega arith)))))
+      (omega (
+        arith,
+        least-absent (differs s) 0 (sharedRingSize (s .regs))
+            (λ p a b. bit-same (held (s .shared) (sharedRingSize (s .regs)) p)
+            (isSet (s .pending) (dedicated (s .regs) + p))
+            (f p (omega arith))),
+      ))
 
 module _ (s : State) (r : Record) (words : ℕ) where
   parts : unfit s r words ≡ false
-      → (registersUnfit (s .regs) words ≡ false) × (ringsUnfit s ≡ false) × (bitsUnfit s ≡ false) × (sharedUnfit s ≡ false) × (flagsUnfit r ≡ false)
+      → (registersUnfit (s .regs) words ≡ false) × (ringsUnfit s ≡ false) × (bitsUnfit s ≡ false)
+      × (sharedUnfit s ≡ false) × (flagsUnfit r ≡ false)
   unfolding unfit
   parts e =
-      let d = or-neither (registersUnfit (s .regs) words || ringsUnfit s || bitsUnfit s || sharedUnfit s) (flagsUnfit r) e in
+      let d =
+      or-neither (registersUnfit (s .regs) words || ringsUnfit s || bitsUnfit s || sharedUnfit s) (flagsUnfit r) e in
       let c = or-neither (registersUnfit (s .regs) words || ringsUnfit s || bitsUnfit s) (sharedUnfit s) (d .0) in
       let b = or-neither (registersUnfit (s .regs) words || ringsUnfit s) (bitsUnfit s) (c .0) in
       let a = or-neither (registersUnfit (s .regs) words) (ringsUnfit s) (b .0) in
@@ -114,11 +138,19 @@ module _ (s : State) (r : Record) (words : ℕ) where
   sound-of e =
       let p = parts e in
       let q = rings-of s (p .1) in
-      let c = or-neither (past (s .pending) (txCount (s .regs)) || past (s .sent) (txCount (s .regs)) || past (s .cancelled) (txCount (s .regs))) (past (s .newdata) (s .regs .buffers)) (p .2) in
-      let b = or-neither (past (s .pending) (txCount (s .regs)) || past (s .sent) (txCount (s .regs))) (past (s .cancelled) (txCount (s .regs))) (c .0) in
+      let c =
+      or-neither
+      (past (s .pending) (txCount (s .regs)) || past (s .sent) (txCount (s .regs)) || past (s .cancelled)
+      (txCount (s .regs))) (past (s .newdata) (s .regs .buffers)) (p .2) in
+      let b =
+      or-neither (past (s .pending) (txCount (s .regs)) || past (s .sent) (txCount (s .regs)))
+      (past (s .cancelled) (txCount (s .regs))) (c .0) in
       let a = or-neither (past (s .pending) (txCount (s .regs))) (past (s .sent) (txCount (s .regs))) (b .0) in
       record {
-        legal = accepted-is-legal memoryWords (s .regs) words .0 (is-allowed (verdict memoryWords (s .regs) words) (not-false (isAllowed (verdict memoryWords (s .regs) words)) (p .0)));
+        legal =
+            accepted-is-legal memoryWords (s .regs) words .0
+            (is-allowed (verdict memoryWords (s .regs) words)
+            (not-false (isAllowed (verdict memoryWords (s .regs) words)) (p .0)));
         fifo0 = q .0;
         fifo1 = q .1;
         events = q .2;
@@ -132,16 +164,29 @@ module _ (s : State) (r : Record) (words : ℕ) where
 
   pub flags-of : unfit s r words ≡ false → FlagsSound r
   unfolding agrees below32
-  flags-of e = unnamed flagFields tt tt tt (r .flags) .0 (eqb-true _ _ (not-false (onlyNamed flagFields (r .flags)) (parts e .4)))
+  flags-of e =
+      unnamed flagFields tt tt tt (r .flags) .0
+      (eqb-true _ _ (not-false (onlyNamed flagFields (r .flags)) (parts e .4)))
 
   pub fit-of : Sound s words → FlagsSound r → unfit s r words ≡ false
   unfolding unfit agrees below32
   fit-of h f =
-      let a : registersUnfit (s .regs) words ≡ false = ap (λ (v : Ruling Refusal). not (isAllowed v)) (accepted-is-legal memoryWords (s .regs) words .1 (h .legal)) in
+      let a : registersUnfit (s .regs) words ≡ false =
+      ap (λ (v : Ruling Refusal). not (isAllowed v)) (accepted-is-legal memoryWords (s .regs) words .1 (h .legal)) in
       let b : ringsUnfit s ≡ false =
-      ap₂ _||_ (ap₂ _||_ (ap₂ _||_ (tested-fit (s .fifo0) (fifoSize (s .regs) 0) (h .fifo0)) (tested-fit (s .fifo1) (fifoSize (s .regs) 1) (h .fifo1))) (tested-fit (s .events) (eventSize (s .regs)) (h .events))) (tested-fit (s .shared) (sharedRingSize (s .regs)) (h .shared)) in
+      ap₂ _||_
+      (ap₂ _||_
+      (ap₂ _||_ (tested-fit (s .fifo0) (fifoSize (s .regs) 0) (h .fifo0))
+      (tested-fit (s .fifo1) (fifoSize (s .regs) 1) (h .fifo1)))
+      (tested-fit (s .events) (eventSize (s .regs)) (h .events)))
+      (tested-fit (s .shared) (sharedRingSize (s .regs)) (h .shared)) in
       let c : bitsUnfit s ≡ false =
-      ap₂ _||_ (ap₂ _||_ (ap₂ _||_ (past-below (s .pending) (txCount (s .regs)) (h .pending)) (past-below (s .sent) (txCount (s .regs)) (h .sent))) (past-below (s .cancelled) (txCount (s .regs)) (h .cancelled))) (past-below (s .newdata) (s .regs .buffers) (h .newdata)) in
+      ap₂ _||_
+      (ap₂ _||_
+      (ap₂ _||_ (past-below (s .pending) (txCount (s .regs)) (h .pending))
+      (past-below (s .sent) (txCount (s .regs)) (h .sent)))
+      (past-below (s .cancelled) (txCount (s .regs)) (h .cancelled)))
+      (past-below (s .newdata) (s .regs .buffers) (h .newdata)) in
       let d : sharedUnfit s ≡ false = of-held s (h .heldBits) in
       let g : flagsUnfit r ≡ false = ap not (eq-eqb _ _ (unnamed flagFields tt tt tt (r .flags) .1 f)) in
       ap₂ _||_ (ap₂ _||_ (ap₂ _||_ (ap₂ _||_ a b) c) d) g
@@ -155,7 +200,8 @@ pub ring-fits : (s : State) (words fifo : ℕ) → Sound s words → Fit (fifoRi
 unfolding fifoRing fifoWord
 ring-fits s words fifo h = go (eqb fifo 0)
   where
-    go : (b : Bool) → Fit (pick b (s .fifo0) (s .fifo1)) (bits 22 16 (pick b (s .regs .rxf0c .word) (s .regs .rxf1c .word)))
+    go : (b : Bool)
+        → Fit (pick b (s .fifo0) (s .fifo1)) (bits 22 16 (pick b (s .regs .rxf0c .word) (s .regs .rxf1c .word)))
     go true = h .fifo0
     go false = h .fifo1
 

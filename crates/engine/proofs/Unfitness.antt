@@ -14,7 +14,8 @@ use Rattle.words.proofs.Lowest.{look-found, look-on, look-done}
 use Rattle.layout.specs.Sections.{memoryWords}
 use Rattle.layout.specs.Verdict.{meaning, verdict}
 use Rattle.layout.specs.declared.check.Verdict.{Verdict}
-use Rattle.engine.specs.Fitness.{sharedRingSize, past, registersUnfit, ringsUnfit, bitsUnfit, differs, sharedUnfit, flagsUnfit, unfit}
+use Rattle.engine.specs.Fitness.{sharedRingSize, past, registersUnfit, ringsUnfit, bitsUnfit, differs}
+use Rattle.engine.specs.Fitness.{sharedUnfit, flagsUnfit, unfit}
 use Rattle.engine.specs.declared.state.State.{State}
 use Rattle.engine.specs.declared.state.Record.{Record}
 
@@ -30,8 +31,11 @@ module _ (s : State) (size p : ℕ) (e : size ≡ sharedRingSize (s .regs)) (lef
   pub shared-found : p < size → (b : Bool) → b ≡ differs s p → b ≡ true → true ≡ sharedUnfit s
   unfolding sharedUnfit
   shared-found h b q y =
-      let w : p ≡ leastFrom (differs s) 0 size = look-found (differs s) (leastFrom (differs s) 0 size) p size left h (sym q ∙ y) in
-      sym (ap (λ (n : ℕ). ltb (leastFrom (differs s) 0 n) n) (sym e) ∙ lt-ltb (leastFrom (differs s) 0 size) size (omega arith))
+      let w : p ≡ leastFrom (differs s) 0 size =
+      look-found (differs s) (leastFrom (differs s) 0 size) p size left h (sym q ∙ y) in
+      sym
+      (ap (λ (n : ℕ). ltb (leastFrom (differs s) 0 n) n) (sym e)
+      ∙ lt-ltb (leastFrom (differs s) 0 size) size (omega arith))
 
   pub shared-on : p < size → (b : Bool) → b ≡ differs s p → b ≡ false → Left s size (p + 1)
   shared-on h b q n = look-on (differs s) (leastFrom (differs s) 0 size) p size left h (sym q ∙ n)
@@ -39,13 +43,17 @@ module _ (s : State) (size p : ℕ) (e : size ≡ sharedRingSize (s .regs)) (lef
   pub shared-none : p ≤ size → size ≤ p → false ≡ sharedUnfit s
   unfolding sharedUnfit
   shared-none h l =
-      let w : size ≡ leastFrom (differs s) 0 size = look-done (differs s) (leastFrom (differs s) 0 size) p size left h l in
-      sym (ap (λ (n : ℕ). ltb (leastFrom (differs s) 0 n) n) (sym e) ∙ le-ltb (leastFrom (differs s) 0 size) size (omega arith))
+      let w : size ≡ leastFrom (differs s) 0 size =
+      look-done (differs s) (leastFrom (differs s) 0 size) p size left h l in
+      sym
+      (ap (λ (n : ℕ). ltb (leastFrom (differs s) 0 n) n) (sym e)
+      ∙ le-ltb (leastFrom (differs s) 0 size) size (omega arith))
 
 any-true : (a b c : Bool) → a ≡ true → true ≡ (a || b || c)
 any-true a b c e = sym (ap (λ (x : Bool). x || b || c) e)
 
-module _ (s : State) (r : Record) (words : ℕ) (v : Verdict) (e : meaning v ≡ verdict memoryWords (s .regs) words) (a : Bool) (t : a ≡ isAllowed (meaning v)) where
+module _ (s : State) (r : Record) (words : ℕ) (v : Verdict) (e : meaning v ≡ verdict memoryWords (s .regs) words)
+    (a : Bool) (t : a ≡ isAllowed (meaning v)) where
   registers : registersUnfit (s .regs) words ≡ not a
   registers = ap not (sym (t ∙ ap isAllowed e))
 
@@ -58,6 +66,7 @@ module _ (s : State) (r : Record) (words : ℕ) (v : Verdict) (e : meaning v ≡
     unfolding unfit
     unfit-rings z = sym (simp (registers, y, ← q, z))
 
-    pub unfit-rest : b ≡ false → (c d f : Bool) → c ≡ bitsUnfit s → d ≡ sharedUnfit s → f ≡ flagsUnfit r → (c || d || f) ≡ unfit s r words
+    pub unfit-rest : b ≡ false → (c d f : Bool) → c ≡ bitsUnfit s → d ≡ sharedUnfit s → f ≡ flagsUnfit r
+        → (c || d || f) ≡ unfit s r words
     unfolding unfit
     unfit-rest z c d f u w x = sym (simp (registers, y, ← q, z, ← u, ← w, ← x))

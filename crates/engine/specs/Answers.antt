@@ -5,7 +5,9 @@ use Rattle.shape.specs.Calls.{Says, refuses, done}
 use Rattle.shape.specs.Refusals.{Refusal as Told}
 use Rattle.layout.specs.Verdict.{plain}
 use Rattle.engine.specs.declared.refusals.Refusal.{Refusal}
-use Rattle.engine.specs.declared.refusals.Refusal.the-variants.{Unfit, Malformed, FdOff, NoSuch, AlreadyPending, NoneFree, InSharedFifo, NotPending, NotTheChoice, NotHeld, WrongOutput}
+use Rattle.engine.specs.declared.refusals.Refusal.the-variants.{Unfit, Malformed, FdOff, NoSuch, AlreadyPending}
+use Rattle.engine.specs.declared.refusals.Refusal.the-variants.{NoneFree, InSharedFifo, NotPending, NotTheChoice}
+use Rattle.engine.specs.declared.refusals.Refusal.the-variants.{NotHeld, WrongOutput}
 use Rattle.engine.specs.declared.refusals.Reply.{Reply}
 use Rattle.engine.specs.declared.refusals.Reply.the-variants.{Done, Refused}
 use Rattle.engine.specs.declared.refusals.Judged

@@ -21,10 +21,11 @@ cleared r mask = withFlags r (withoutMask 32 (r .flags) mask)
 unfoldable pub withPriority : Record → ℕ → Record
 withPriority r word = record { flags = r .flags; priority = word }
 
--- a fill rose to a number, in a FIFO whose flags start at `first`: new; watermark where it rose to it; full where it rose to the size.
--- A fill is from 1 to the size, so a watermark of 0 or over the most is never met
+-- a fill rose to a number, in a FIFO whose flags start at `first`: new; watermark where it rose to it; full where it
+-- rose to the size. A fill is from 1 to the size, so a watermark of 0 or over the most is never met
 unfoldable pub filling : Record → ℕ → ℕ → ℕ → ℕ → Record
-filling r first fill mark size = raisedIf (raisedIf (raised r first) (eqb fill mark) (first + 1)) (eqb fill size) (first + 2)
+filling r first fill mark size =
+    raisedIf (raisedIf (raised r first) (eqb fill mark) (first + 1)) (eqb fill size) (first + 2)
 
 -- the list in bit 15 (1 for 29 bits), the index from bit 8, the outcome from bit 6, the place from bit 0
 unfoldable pub priorityWord : Bool → ℕ → ℕ → ℕ → ℕ

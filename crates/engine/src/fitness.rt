@@ -7,7 +7,8 @@ use registers::Registers;
 use words::bits32;
 ghost use mathlib.Core.Path.{_≡_};
 ghost use Prim.Native.Nat.{_≤_};
-ghost use Rattle.engine.specs.Fitness.{past, ringsUnfit, bitsUnfit, sharedRingSize, differs, sharedUnfit, flagsUnfit, unfit};
+ghost use Rattle.engine.specs.Fitness.{past, ringsUnfit, bitsUnfit, sharedRingSize, differs};
+ghost use Rattle.engine.specs.Fitness.{sharedUnfit, flagsUnfit, unfit};
 ghost use Rattle.engine.specs.Needs.{SharedFits, SharedCan};
 
 // A bit at place n or above is set, of a word of 32 bits.

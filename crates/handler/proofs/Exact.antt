@@ -1,4 +1,5 @@
--- Every call is of the one shape, over the paper's table; so its refusal is the first row that applies, and a refusal changes nothing.
+-- Every call is of the one shape, over the paper's table; so its refusal is the first row that applies, and a refusal
+-- changes nothing.
 -- Assumes nothing.
 use mathlib.Core.Path.{_≡_, refl, sym, ap, _∙_, subst}
 use Rattle.words.specs.Rules.{allowed, first}
@@ -46,8 +47,8 @@ does w reportStatus = tells (statusOf (w .state)) w
 
 -- the rows of the table that speak for a call are its own
 pub tabled : (w : World) (c : Call) → step w c ≡ call w (given c .output) (rows w c) (does w c)
-unfolding rows call outputRefusals fifoRefusals bufferRefusals receiveRefusals dedicatedRefusals sharedRefusals cancelRefusals
-    choiceRefusals reportRefusals eventRefusals overviewRefusals
+unfolding rows call outputRefusals fifoRefusals bufferRefusals receiveRefusals dedicatedRefusals sharedRefusals
+    cancelRefusals choiceRefusals reportRefusals eventRefusals overviewRefusals
 tabled w (start g) = refl
 tabled w (receive f d time) = refl
 tabled w (readFifo fifo place out) = refl
@@ -66,7 +67,8 @@ tabled w reportStatus = refl
 
 -- what is shown of a refusal and of the effect is shown of the call
 pub step-cases : (w : World) (c : Call) (P : Outcome (Answer c) → Type 0)
-    → ((a : Refusal) → P (outcome (refuses a) w (given c .output))) → (first (rows w c) ≡ allowed → P (effected (does w c))) → P (step w c)
+    → ((a : Refusal) → P (outcome (refuses a) w (given c .output)))
+    → (first (rows w c) ≡ allowed → P (effected (does w c))) → P (step w c)
 step-cases w c P turned through =
     subst P (sym (tabled w c)) (call-cases w (given c .output) (rows w c) (does w c) P turned through)
 

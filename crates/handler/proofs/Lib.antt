@@ -4,3 +4,9 @@ pub mod StillFit
 pub mod Parts
 pub mod Others
 pub mod Tightness
+pub mod Demand2Layouts
+pub mod Demand2Frames
+pub mod Demand2Memory
+pub mod Demand2Choice
+pub mod Demand2
+pub mod Stars

@@ -8,7 +8,7 @@ use mathlib.Core.Logic.{_⊎_, inl, inr}
 use native.Mathlib.Omega.{arith}
 use lib.ListN.{length, getD, List·getD-eq-default}
 use Rattle.words.specs.Best.{Best, nobody, somebody}
-use Rattle.words.specs.Ranges.{Range, front, OnlyIn}
+use Rattle.words.specs.Ranges.{front, OnlyIn}
 use Rattle.words.specs.Rules.{allowed, first}
 use Rattle.words.specs.Runs.{run, splice}
 use Rattle.words.proofs.Ranges.{only-none, splice-only}
@@ -74,7 +74,8 @@ choice-front s mem passive out e (somebody b) =
     front-written out _ _ (omega (arith, length-most (f .rtr) (f .fdf) (f .dlc)))
 
 -- call 2 is lent none
-no-output : (w : World) (f : Frame) (d : List ℕ) (time : ℕ) (g : Goes) → OnlyIn (front 0) [] (goesTo w f d time g .output)
+no-output : (w : World) (f : Frame) (d : List ℕ) (time : ℕ) (g : Goes)
+    → OnlyIn (front 0) [] (goesTo w f d time g .output)
 unfolding intoFifo intoBuffer intoNothing
 no-output w f d time (toFifo fifo on m) = only-none (front 0) []
 no-output w f d time (toBuffer buffer i) = only-none (front 0) []
@@ -91,13 +92,16 @@ parts-change : (ps : List Part) (w v : World) → v .memory ≡ w .memory → St
 parts-change ps w v e h = record { memory = rw e (only-none _ _); output = only-none _ _; parts = h }
 
 -- the output alone
-output-changes : (n : ℕ) (w : World) (out last : List ℕ) → OnlyIn (front n) out last → OthersStay w out w last (bytesOnly n)
+output-changes : (n : ℕ) (w : World) (out last : List ℕ) → OnlyIn (front n) out last
+    → OthersStay w out w last (bytesOnly n)
 output-changes n w out last h = record { memory = only-none _ _; output = h; parts = all-stay w }
 
-choice-others : (s : State) (mem : List ℕ) (passive : Bool) (out : List ℕ) → length out ≡ outputBytes → (b : Best) (w : World)
+choice-others : (s : State) (mem : List ℕ) (passive : Bool) (out : List ℕ) → length out ≡ outputBytes
+    → (b : Best) (w : World)
     → OthersStay w out w (outputOf s mem passive out b) (byChoice (nextOf s mem passive b))
 choice-others s mem passive out e nobody w = nothing-changes w out
-choice-others s mem passive out e (somebody b) w = output-changes _ w out _ (choice-front s mem passive out e (somebody b))
+choice-others s mem passive out e (somebody b) w =
+    output-changes _ w out _ (choice-front s mem passive out e (somebody b))
 
 -- a read
 read-others : (w : World) (a : Area) (place : ℕ) (out : List ℕ) → length out ≡ outputBytes
@@ -107,12 +111,16 @@ read-others w a place out e = output-changes _ w out _ (reads-front w a place ou
 
 others : (w : World) (c : Call) → first (rows w c) ≡ allowed
     → let d = does w c in OthersStay w (given c .output) (d .world) (d .output) (changesOf w c (d .answer))
-unfolding rows outputRefusals fifoRefusals bufferRefusals receiveRefusals dedicatedRefusals sharedRefusals cancelRefusals
-    choiceRefusals reportRefusals eventRefusals overviewRefusals
+unfolding rows outputRefusals fifoRefusals bufferRefusals receiveRefusals dedicatedRefusals sharedRefusals
+    cancelRefusals choiceRefusals reportRefusals eventRefusals overviewRefusals
     released cleared raised chooses requests
 others w (start g) e = record {
   memory = only-none _ _;
-  output = record { size = refl; outside = λ k c. past-end (flat (sectionsOf g)) unreported 14 k (omega arith) (omega arith) c };
+  output =
+      record {
+        size = refl;
+        outside = λ k c. past-end (flat (sectionsOf g)) unreported 14 k (omega arith) (omega arith) c;
+      };
   parts = stays everyPart _ w refl (λ h. cc) (λ h. cc);
 }
 others w (receive f d time) e = record {

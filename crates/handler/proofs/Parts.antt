@@ -8,7 +8,6 @@ use lib.Dec.{eqb}
 use Rattle.words.specs.Choice.{pick}
 use Rattle.words.proofs.Choices.{pick-second}
 use Rattle.ring.specs.declared.Ring.{Ring}
-use Rattle.places.specs.Slots.{takeRule}
 use Rattle.places.specs.declared.Slot.{Slot}
 use Rattle.places.specs.declared.Slot.the-variants.{At, Lost}
 use Rattle.places.specs.declared.Taken.{Taken}
@@ -101,7 +100,8 @@ ring-parts : (w : World) (fifo : ℕ) (q : Ring) (m : List ℕ) (on : Bool) (r :
 unfolding withFifo
 ring-parts w fifo q m on r = ringed-parts w q m (eqb fifo 0) on r
 
-pub fifo-parts : (w : World) (fifo : ℕ) (q : Ring) → Stays (fifoPart fifo ∷ []) w (withState w (withFifo (w .state) fifo q))
+pub fifo-parts : (w : World) (fifo : ℕ) (q : Ring)
+    → Stays (fifoPart fifo ∷ []) w (withState w (withFifo (w .state) fifo q))
 fifo-parts w fifo q = ring-parts w fifo q (w .memory) false (w .recorded)
 
 -- ---- call 2
@@ -162,7 +162,8 @@ filling-priority r first fill mark size = flag-priority _ (eqb fill size) _ ∙ 
 keep-priority : (k : Keeper) (q : Ring) (r : Record) → keepRule k q r .recorded .priority ≡ r .priority
 unfolding raised
 keep-priority k q r =
-    keep-cases k q r (λ (x : Kept). x .recorded .priority ≡ r .priority) (λ h. filling-priority r _ _ _ _) refl (λ h. refl)
+    keep-cases k q r (λ (x : Kept). x .recorded .priority ≡ r .priority) (λ h. filling-priority r _ _ _ _) refl
+    (λ h. refl)
 
 sent-priority : (s : State) (r : Record) (buffer : ℕ) → sentRecord s r buffer .priority ≡ r .priority
 unfolding raised

@@ -30,8 +30,8 @@ use Rattle.handler.specs.Rows.{rows}
 use Rattle.handler.proofs.Exact.{does, step-cases}
 
 does-fit : (w : World) (c : Call) → isUnfit w ≡ false → first (rows w c) ≡ allowed → isUnfit (does w c .world) ≡ false
-unfolding rows outputRefusals fifoRefusals bufferRefusals receiveRefusals dedicatedRefusals sharedRefusals cancelRefusals
-    choiceRefusals reportRefusals eventRefusals overviewRefusals
+unfolding rows outputRefusals fifoRefusals bufferRefusals receiveRefusals dedicatedRefusals sharedRefusals
+    cancelRefusals choiceRefusals reportRefusals eventRefusals overviewRefusals
     reads chooses
 does-fit w (start g) h e = empty-is-fit g (length (w .memory)) (sym (start-ruled g (length (w .memory))) ∙ e)
 does-fit w (receive f d time) h e = receive-fit w f d time e

@@ -1,7 +1,7 @@
 -- No second outcome meets a contract: no two that a function leaves mean the same.
 -- Assumes nothing.
 use Prim.Native.Nat.{ℕ}
-use mathlib.Core.Path.{_≡_, refl, sym, ap, ap₂, _∙_}
+use mathlib.Core.Path.{_≡_, refl, sym, ap, _∙_}
 use mathlib.Core.List.{List, [], _∷_}
 use Rattle.words.specs.Rules.{Ruling, allowed, refused}
 use Rattle.shape.specs.Calls.{Says, refuses, answers}
@@ -15,8 +15,6 @@ use Rattle.layout.specs.declared.sections.Section.{Section}
 use Rattle.layout.proofs.OneAnswer.{one-answer}
 use Rattle.engine.specs.Calls.{World, Outcome}
 use Rattle.engine.specs.declared.refusals.Reply.{Reply}
-use Rattle.engine.specs.declared.state.State.{State}
-use Rattle.engine.specs.declared.state.Record.{Record}
 use Rattle.engine.proofs.Replies.{refusalOf, refusal-back, replyOf, reply-back}
 use Rattle.starting.specs.Starting.{startSays, flat}
 use Rattle.starting.specs.declared.Started.{Started}
@@ -89,29 +87,36 @@ one-left : (w : World) (c : Call) (a b : Left c) → meaning w c a ≡ meaning w
 one-left w (start g) = one-start w g
 one-left w (receive f d time) =
     made-again _
-    (λ (o : Outcome Fate).
-    (record { answer = receivedOf (o .says); state = o .world .state; recorded = o .world .recorded }, o .world .memory))
+    (λ (o : Outcome Fate). (
+      record { answer = receivedOf (o .says); state = o .world .state; recorded = o .world .recorded },
+      o .world .memory,
+    ))
     (λ l. ap (λ (x : Received). (record { answer = x; state = l .0 .state; recorded = l .0 .recorded }, l .1))
     (received-back (l .0 .answer)))
 one-left w (readFifo fifo place out) =
-    made-again _ (λ (o : Outcome RxRead). (readOf (o .says), o .output)) (λ l. ap (λ (x : ReadAnswer). (x, l .1)) (read-back (l .0)))
+    made-again _ (λ (o : Outcome RxRead). (readOf (o .says), o .output))
+    (λ l. ap (λ (x : ReadAnswer). (x, l .1)) (read-back (l .0)))
 one-left w (acknowledgeFifo fifo place) =
     made-again _ (λ (o : Outcome (Unit {0})). record { reply = replyOf (o .says); state = o .world .state })
     (λ l. ap (λ (x : Reply). record { reply = x; state = l .state }) (reply-back (l .reply)))
 one-left w (readBuffer buffer out) =
-    made-again _ (λ (o : Outcome RxRead). (readOf (o .says), o .output)) (λ l. ap (λ (x : ReadAnswer). (x, l .1)) (read-back (l .0)))
+    made-again _ (λ (o : Outcome RxRead). (readOf (o .says), o .output))
+    (λ l. ap (λ (x : ReadAnswer). (x, l .1)) (read-back (l .0)))
 one-left w (releaseBuffer buffer) =
     made-again _ (λ (o : Outcome (Unit {0})). record { reply = replyOf (o .says); state = o .world .state })
     (λ l. ap (λ (x : Reply). record { reply = x; state = l .state }) (reply-back (l .reply)))
 one-left w (requestDedicated buffer h d) =
-    made-again _ (λ (o : Outcome ℕ). (record { answer = requestedOf (o .says); state = o .world .state }, o .world .memory))
+    made-again _
+    (λ (o : Outcome ℕ). (record { answer = requestedOf (o .says); state = o .world .state }, o .world .memory))
     (λ l. ap (λ (x : Requested). (record { answer = x; state = l .0 .state }, l .1)) (requested-back (l .0 .answer)))
 one-left w (requestShared h d) =
-    made-again _ (λ (o : Outcome ℕ). (record { answer = requestedOf (o .says); state = o .world .state }, o .world .memory))
+    made-again _
+    (λ (o : Outcome ℕ). (record { answer = requestedOf (o .says); state = o .world .state }, o .world .memory))
     (λ l. ap (λ (x : Requested). (record { answer = x; state = l .0 .state }, l .1)) (requested-back (l .0 .answer)))
 one-left w (cancel buffer) =
     made-again _
-    (λ (o : Outcome (Unit {0})). record { reply = replyOf (o .says); state = o .world .state; recorded = o .world .recorded })
+    (λ (o : Outcome (Unit {0})).
+    record { reply = replyOf (o .says); state = o .world .state; recorded = o .world .recorded })
     (λ l. ap (λ (x : Reply). record { reply = x; state = l .state; recorded = l .recorded }) (reply-back (l .reply)))
 one-left w (askChoice passive out) =
     made-again _ (λ (o : Outcome Next). (choiceOf (o .says), o .output))

@@ -58,7 +58,8 @@ pub data Call : Type 0 where
   -- 15
   reportStatus : Call
 
--- the same, with the call's number and a name for each thing; what a call is not given is 0 or empty. A start's output is what it reports: no sections yet
+-- the same, with the call's number and a name for each thing; what a call is not given is 0 or empty. A start's
+-- output is what it reports: no sections yet
 pub record Given : Type 0 where
   pub call : ℕ
   pub registers : Registers

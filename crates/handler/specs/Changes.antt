@@ -1,4 +1,5 @@
--- What a call may change, by its answer: words of the memory, bytes of the output, parts of state and record. A refusal changes nothing.
+-- What a call may change, by its answer: words of the memory, bytes of the output, parts of state and record. A
+-- refusal changes nothing.
 use Prim.Native.Nat.{ℕ}
 use mathlib.Core.Path.{_≡_}
 use mathlib.Core.Bool.{Bool, false, _||_}

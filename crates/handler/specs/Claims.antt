@@ -1,4 +1,5 @@
--- The contract of each public function: what it returned means what the call's definition says. And how tight it is: no second outcome meets it.
+-- The contract of each public function: what it returned means what the call's definition says. And how tight it is:
+-- no second outcome meets it.
 use Prim.Native.Nat.{ℕ}
 use mathlib.Core.Path.{_≡_}
 use mathlib.Core.List.{List}
@@ -29,7 +30,8 @@ use Rattle.handler.specs.Calls.{Call, start, receive, readFifo, acknowle
 use Rattle.handler.specs.Calls.{requestDedicated, requestShared, cancel, askChoice, reportSent, readEvent}
 use Rattle.handler.specs.Calls.{acknowledgeEvent, clearFlags, reportStatus, Answer, step}
 
--- what the function of a call leaves: what it returns, with the memory or the output after it where it was lent one to be changed
+-- what the function of a call leaves: what it returns, with the memory or the output after it where it was lent one
+-- to be changed
 abbrev pub Left : Call → Type 0
 Left (start g) = Started
 Left (receive f d time) = AfterReceive × List ℕ

@@ -3,3 +3,5 @@ pub mod Rows
 pub mod Changes
 pub mod Claims
 pub mod Demand1
+pub mod Demand2
+pub mod Stars

@@ -1,4 +1,5 @@
-// The public face: the fifteen calls in the paper's order. What each returns means what its definition says: that is its contract.
+// The public face: the fifteen calls in the paper's order.
+// The contract of each is that what it returns means what its definition says.
 
 // State, record and registers, and a frame.
 pub use engine::state::Record;
@@ -69,7 +70,8 @@ pub fn receive(
     bytes: &[u8],
     time: u16,
 ) -> AfterReceive
-    ensures { λ r. ⌜ Claim (world s recorded (now (mem .entry))) (Call.receive f (now (bytes .entry)) time) (r, now (mem .exit)) ⌝ }
+    ensures { λ r. ⌜ Claim (world s recorded (now (mem .entry))) (Call.receive f (now (bytes .entry)) time)
+        (r, now (mem .exit)) ⌝ }
 {
     receiving::receive::receive(s, recorded, mem, f, bytes, time)
 }
@@ -83,7 +85,8 @@ pub fn read_fifo(
     place: u32,
     out: &mut [u8],
 ) -> ReadAnswer
-    ensures { λ r. ⌜ Claim (world s recorded (now (mem .entry))) (Call.readFifo fifo place (now (out .entry))) (r, now (out .exit)) ⌝ }
+    ensures { λ r. ⌜ Claim (world s recorded (now (mem .entry))) (Call.readFifo fifo place (now (out .entry)))
+        (r, now (out .exit)) ⌝ }
 {
     taking::reading::read_fifo(s, recorded, mem, fifo, place, out)
 }
@@ -109,7 +112,8 @@ pub fn read_buffer(
     buffer: u32,
     out: &mut [u8],
 ) -> ReadAnswer
-    ensures { λ r. ⌜ Claim (world s recorded (now (mem .entry))) (Call.readBuffer buffer (now (out .entry))) (r, now (out .exit)) ⌝ }
+    ensures { λ r. ⌜ Claim (world s recorded (now (mem .entry))) (Call.readBuffer buffer (now (out .entry)))
+        (r, now (out .exit)) ⌝ }
 {
     taking::reading::read_buffer(s, recorded, mem, buffer, out)
 }
@@ -130,7 +134,8 @@ pub fn request_dedicated(
     h: TxHeader,
     bytes: &[u8],
 ) -> AfterRequest
-    ensures { λ r. ⌜ Claim (world s recorded (now (mem .entry))) (Call.requestDedicated buffer h (now (bytes .entry))) (r, now (mem .exit)) ⌝ }
+    ensures { λ r. ⌜ Claim (world s recorded (now (mem .entry))) (Call.requestDedicated buffer h (now (bytes .entry)))
+        (r, now (mem .exit)) ⌝ }
 {
     requesting::requesting::request_dedicated(s, recorded, mem, buffer, h, bytes)
 }
@@ -143,7 +148,8 @@ pub fn request_shared(
     h: TxHeader,
     bytes: &[u8],
 ) -> AfterRequest
-    ensures { λ r. ⌜ Claim (world s recorded (now (mem .entry))) (Call.requestShared h (now (bytes .entry))) (r, now (mem .exit)) ⌝ }
+    ensures { λ r. ⌜ Claim (world s recorded (now (mem .entry))) (Call.requestShared h (now (bytes .entry)))
+        (r, now (mem .exit)) ⌝ }
 {
     requesting::requesting::request_shared(s, recorded, mem, h, bytes)
 }
@@ -163,7 +169,8 @@ pub fn ask_choice(
     passive: bool,
     out: &mut [u8],
 ) -> ChoiceAnswer
-    ensures { λ r. ⌜ Claim (world s recorded (now (mem .entry))) (Call.askChoice passive (now (out .entry))) (r, now (out .exit)) ⌝ }
+    ensures { λ r. ⌜ Claim (world s recorded (now (mem .entry))) (Call.askChoice passive (now (out .entry)))
+        (r, now (out .exit)) ⌝ }
 {
     choosing::asking::ask_choice(s, recorded, mem, passive, out)
 }
@@ -177,7 +184,8 @@ pub fn report_sent(
     passive: bool,
     time: u16,
 ) -> AfterReport
-    ensures { λ r. ⌜ Claim (world s recorded (now (mem .entry))) (Call.reportSent buffer passive time) (r, now (mem .exit)) ⌝ }
+    ensures { λ r. ⌜ Claim (world s recorded (now (mem .entry))) (Call.reportSent buffer passive time)
+        (r, now (mem .exit)) ⌝ }
 {
     reporting::report::report_sent(s, recorded, mem, buffer, passive, time)
 }

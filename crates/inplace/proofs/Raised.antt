@@ -6,7 +6,8 @@ use Rattle.words.proofs.Bits.{bit-lt, bit-or, cleared-bit}
 use Rattle.engine.specs.Flags.{cleared, withPriority}
 use Rattle.engine.proofs.Sounds.{sound-of, flags-of, fit-of}
 use Rattle.inplace.specs.Raising.{raisedMask}
-use Rattle.inplace.specs.Promises.{RaiseSetsTheMask, RaiseKeepsTheRest, ClearClearsTheMask, ClearKeepsTheRest, PutReplacesThePriority, RaiseKeepsFit, PutKeepsFit}
+use Rattle.inplace.specs.Promises.{RaiseSetsTheMask, RaiseKeepsTheRest, ClearClearsTheMask, ClearKeepsTheRest}
+use Rattle.inplace.specs.Promises.{PutReplacesThePriority, RaiseKeepsFit, PutKeepsFit}
 
 pub raise-sets-the-mask : RaiseSetsTheMask
 unfolding raisedMask
@@ -22,7 +23,8 @@ clear-clears-the-mask r mask n h l e = omega (arith, cleared-bit 32 (r .flags) m
 
 pub clear-keeps-the-rest : ClearKeepsTheRest
 unfolding cleared
-clear-keeps-the-rest r mask h = (λ n l e. omega (arith, cleared-bit 32 (r .flags) mask n h l, bit-lt (r .flags) n), refl)
+clear-keeps-the-rest r mask h =
+    (λ n l e. omega (arith, cleared-bit 32 (r .flags) mask n h l, bit-lt (r .flags) n), refl)
 
 pub put-replaces-the-priority : PutReplacesThePriority
 unfolding withPriority
@@ -31,7 +33,8 @@ put-replaces-the-priority r word = (refl, refl)
 pub raise-keeps-fit : RaiseKeepsFit
 unfolding raisedMask
 raise-keeps-fit s r words mask named e =
-    fit-of s (raisedMask r mask) words (sound-of s r words e) (λ k f. omega (arith, bit-or (r .flags) mask k, flags-of s r words e k f, named k f))
+    fit-of s (raisedMask r mask) words (sound-of s r words e)
+    (λ k f. omega (arith, bit-or (r .flags) mask k, flags-of s r words e k f, named k f))
 
 pub put-keeps-fit : PutKeepsFit
 unfolding withPriority

@@ -16,24 +16,32 @@ RaiseSetsTheMask = (r : Record) (mask n : ℕ) → bit mask n ≡ 1 → bit (rai
 
 abbrev pub RaiseKeepsTheRest : Type 0
 RaiseKeepsTheRest =
-    (r : Record) (mask : ℕ) → ((n : ℕ) → bit mask n ≡ 0 → bit (raisedMask r mask .flags) n ≡ bit (r .flags) n) × (raisedMask r mask .priority ≡ r .priority)
+    (r : Record) (mask : ℕ)
+    → ((n : ℕ) → bit mask n ≡ 0 → bit (raisedMask r mask .flags) n ≡ bit (r .flags) n)
+    × (raisedMask r mask .priority ≡ r .priority)
 
 -- clear: each flag of the mask is 0; every other, and the priority, is as it was
 abbrev pub ClearClearsTheMask : Type 0
-ClearClearsTheMask = (r : Record) (mask n : ℕ) → mask < 2 ^ 32 → n < 32 → bit mask n ≡ 1 → bit (cleared r mask .flags) n ≡ 0
+ClearClearsTheMask =
+    (r : Record) (mask n : ℕ) → mask < 2 ^ 32 → n < 32 → bit mask n ≡ 1 → bit (cleared r mask .flags) n ≡ 0
 
 abbrev pub ClearKeepsTheRest : Type 0
 ClearKeepsTheRest =
     (r : Record) (mask : ℕ) → mask < 2 ^ 32
-    → ((n : ℕ) → n < 32 → bit mask n ≡ 0 → bit (cleared r mask .flags) n ≡ bit (r .flags) n) × (cleared r mask .priority ≡ r .priority)
+    → ((n : ℕ) → n < 32 → bit mask n ≡ 0 → bit (cleared r mask .flags) n ≡ bit (r .flags) n)
+    × (cleared r mask .priority ≡ r .priority)
 
 -- put: the priority is the word, and every flag is as it was
 abbrev pub PutReplacesThePriority : Type 0
-PutReplacesThePriority = (r : Record) (word : ℕ) → (withPriority r word .priority ≡ word) × (withPriority r word .flags ≡ r .flags)
+PutReplacesThePriority =
+    (r : Record) (word : ℕ) → (withPriority r word .priority ≡ word) × (withPriority r word .flags ≡ r .flags)
 
 -- a fit state stays fit where the flags raised are named ones, and where any priority is put
 abbrev pub RaiseKeepsFit : Type 0
-RaiseKeepsFit = (s : State) (r : Record) (words mask : ℕ) → RestZero flagFields mask → unfit s r words ≡ false → unfit s (raisedMask r mask) words ≡ false
+RaiseKeepsFit =
+    (s : State) (r : Record) (words mask : ℕ) → RestZero flagFields mask → unfit s r words ≡ false
+    → unfit s (raisedMask r mask) words ≡ false
 
 abbrev pub PutKeepsFit : Type 0
-PutKeepsFit = (s : State) (r : Record) (words word : ℕ) → unfit s r words ≡ false → unfit s (withPriority r word) words ≡ false
+PutKeepsFit =
+    (s : State) (r : Record) (words word : ℕ) → unfit s r words ≡ false → unfit s (withPriority r word) words ≡ false

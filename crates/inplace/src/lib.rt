@@ -1,4 +1,4 @@
-// The record of flags and priority, changed in place by the caller's interrupt code: thin functions over the steps by value.
+// The record, changed in place by the caller's interrupt code: thin functions over the steps by value.
 // They are raw steps: no state is asked for, and nothing is refused.
 use engine::flags;
 use engine::state::Record;
@@ -18,24 +18,24 @@ pub fn raise_mask(r: Record, mask: u32) -> Record
 
 // The same in place.
 #[no_mangle]
-pub extern "C" fn cuongphemi_flags_raise(status: &mut Record, mask: u32)
-    ensures { λ _. ⌜ now (status .exit) ≡ raisedMask (now (status .entry)) mask ⌝ }
+pub extern "C" fn cuongphemi_flags_raise(recorded: &mut Record, mask: u32)
+    ensures { λ _. ⌜ now (recorded .exit) ≡ raisedMask (now (recorded .entry)) mask ⌝ }
 {
-    *status = raise_mask(*status, mask);
+    *recorded = raise_mask(*recorded, mask);
 }
 
 // The flags of a mask are cleared in place; the priority stays.
 #[no_mangle]
-pub extern "C" fn cuongphemi_flags_clear(status: &mut Record, mask: u32)
-    ensures { λ _. ⌜ now (status .exit) ≡ cleared (now (status .entry)) mask ⌝ }
+pub extern "C" fn cuongphemi_flags_clear(recorded: &mut Record, mask: u32)
+    ensures { λ _. ⌜ now (recorded .exit) ≡ cleared (now (recorded .entry)) mask ⌝ }
 {
-    *status = flags::clear(*status, mask);
+    *recorded = flags::clear(*recorded, mask);
 }
 
 // The priority word is replaced in place; the flags stay.
 #[no_mangle]
-pub extern "C" fn cuongphemi_priority_put(status: &mut Record, word: u32)
-    ensures { λ _. ⌜ now (status .exit) ≡ withPriority (now (status .entry)) word ⌝ }
+pub extern "C" fn cuongphemi_priority_put(recorded: &mut Record, word: u32)
+    ensures { λ _. ⌜ now (recorded .exit) ≡ withPriority (now (recorded .entry)) word ⌝ }
 {
-    *status = flags::set_priority(*status, word);
+    *recorded = flags::set_priority(*recorded, word);
 }

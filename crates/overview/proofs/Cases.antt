@@ -25,9 +25,11 @@ use Rattle.overview.specs.declared.RingStatus.{RingStatus}
 
 -- ---- the four rings
 
-module _ (s : State) (n0 n1 n2 n3 : ℕ) (e0 : n0 ≡ bits 22 16 (s .regs .rxf0c .word)) (e1 : n1 ≡ bits 22 16 (s .regs .rxf1c .word))
+module _ (s : State) (n0 n1 n2 n3 : ℕ) (e0 : n0 ≡ bits 22 16 (s .regs .rxf0c .word))
+    (e1 : n1 ≡ bits 22 16 (s .regs .rxf1c .word))
     (e2 : n2 ≡ eventSize (s .regs)) (e3 : n3 ≡ sharedRingSize (s .regs)) where
-  pub status-told : (t0 t1 t2 t3 : RingStatus) (m : ℕ) → t0 ≡ ringStatus (s .fifo0) n0 → t1 ≡ ringStatus (s .fifo1) n1 → t2 ≡ ringStatus (s .events) n2 → t3 ≡ ringStatus (s .shared) n3
+  pub status-told : (t0 t1 t2 t3 : RingStatus) (m : ℕ) → t0 ≡ ringStatus (s .fifo0) n0
+      → t1 ≡ ringStatus (s .fifo1) n1 → t2 ≡ ringStatus (s .events) n2 → t3 ≡ ringStatus (s .shared) n3
       → m ≡ ones (s .pending)
       → record { fifo0 = t0; fifo1 = t1; events = t2; shared = t3; pending = m } ≡ statusOf s
   unfolding fifoWord statusOf
@@ -63,12 +65,17 @@ module _ (s : State) (r : Record) (mem : List ℕ) (b : Bool) (e : b ≡ unfit s
       → settles (refuses (plain 20)) (world s r mem) ≡ call (world s r mem) [] (overviewRefusals (world s r mem)) d
   unfit-refused d y = sym (call-refused (world s r mem) [] (overviewRefusals (world s r mem)) d (plain 20) (against y))
 
-  pub clear-done : (mask : ℕ) (n : Record) → b ≡ false → n ≡ cleared r mask → settles done (world s n mem) ≡ clearFlags (world s r mem) mask
+  pub clear-done : (mask : ℕ) (n : Record) → b ≡ false → n ≡ cleared r mask
+      → settles done (world s n mem) ≡ clearFlags (world s r mem) mask
   clear-done mask n y q =
       ap (λ (x : Record). settles done (world s x mem)) q
-      ∙ sym (call-done (world s r mem) [] (overviewRefusals (world s r mem)) (leaves (world s (cleared r mask) mem)) (nothing y))
+      ∙ sym
+      (call-done (world s r mem) [] (overviewRefusals (world s r mem)) (leaves (world s (cleared r mask) mem))
+      (nothing y))
 
-  pub status-given : (t : Overview) → b ≡ false → t ≡ statusOf s → settles (answers t) (world s r mem) ≡ reportStatus (world s r mem)
+  pub status-given : (t : Overview) → b ≡ false → t ≡ statusOf s
+      → settles (answers t) (world s r mem) ≡ reportStatus (world s r mem)
   status-given t y q =
       ap (λ (x : Overview). settles (answers x) (world s r mem)) q
-      ∙ sym (call-done (world s r mem) [] (overviewRefusals (world s r mem)) (tells (statusOf s) (world s r mem)) (nothing y))
+      ∙ sym
+      (call-done (world s r mem) [] (overviewRefusals (world s r mem)) (tells (statusOf s) (world s r mem)) (nothing y))

@@ -24,7 +24,8 @@ use Rattle.overview.specs.Overview.{overviewRefusals, statusOf}
 use Rattle.overview.specs.Promises.{PendingIsCounted}
 use Rattle.overview.specs.declared.Overview.{Overview}
 
-pub cleared-fit : (s : State) (r : Record) (words mask : ℕ) → unfit s r words ≡ false → unfit s (cleared r mask) words ≡ false
+pub cleared-fit : (s : State) (r : Record) (words mask : ℕ) → unfit s r words ≡ false
+    → unfit s (cleared r mask) words ≡ false
 unfolding cleared withoutMask
 cleared-fit s r words mask e =
     fit-of s (cleared r mask) words (sound-of s r words e)
@@ -34,14 +35,18 @@ pub overview-fit : (w : World) → first (overviewRefusals w) ≡ allowed → is
 unfolding overviewRefusals
 overview-fit w e = row-off 20 _ [] e .0
 
-pub pending-counted : (s : State) (words : ℕ) → Sound s words → statusOf s .pending ≡ howMany (isSet (s .pending)) (txCount (s .regs))
+pub pending-counted : (s : State) (words : ℕ) → Sound s words
+    → statusOf s .pending ≡ howMany (isSet (s .pending)) (txCount (s .regs))
 unfolding statusOf
 pending-counted s words h = ones-many (txCount (s .regs)) (s .pending) (h .pending)
 
 pub pending-is-counted : PendingIsCounted
 pending-is-counted w t =
     call-cases w [] (overviewRefusals w) (tells (statusOf (w .state)) w)
-    (λ (o : Outcome Overview). o .says ≡ answers t → t .pending ≡ howMany (isSet (w .state .pending)) (txCount (w .state .regs)))
+    (λ (o : Outcome Overview).
+    o .says ≡ answers t → t .pending ≡ howMany (isSet (w .state .pending)) (txCount (w .state .regs)))
     (λ n e. let z : _≡_ {A = ℕ} 0 1 = cc in absurd (omega arith))
     (λ f e. let same : t ≡ statusOf (w .state) = cc in
-    ap (λ (o : Overview). o .pending) same ∙ pending-counted (w .state) (length (w .memory)) (sound-of (w .state) (w .recorded) (length (w .memory)) (overview-fit w f)))
+    ap (λ (o : Overview). o .pending) same
+    ∙ pending-counted (w .state) (length (w .memory))
+    (sound-of (w .state) (w .recorded) (length (w .memory)) (overview-fit w f)))

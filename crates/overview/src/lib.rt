@@ -88,7 +88,8 @@ fn status_of(s: State, words: usize) -> Overview
 
 // Fills, oldest and put places, and how many Tx buffers are pending.
 pub fn report_status(s: State, recorded: Record, mem: &[u32]) -> StatusAnswer
-    ensures { λ a. ⌜ settles (meaning a) (world s recorded (now (mem .entry))) ≡ reportStatus (world s recorded (now (mem .entry))) ⌝ }
+    ensures { λ a. ⌜ settles (meaning a) (world s recorded (now (mem .entry)))
+        ≡ reportStatus (world s recorded (now (mem .entry))) ⌝ }
 {
     let words = mem.len();
     if is_unfit(s, recorded, words) {

@@ -9,7 +9,7 @@ use native.Mathlib.Omega.{arith}
 use lib.Dec.{ltb}
 use lib.ListN.{length}
 use borrow.Author.Tests.{ltb-true, ltb-false}
-use Rattle.words.specs.Ranges.{range, SameIn, OnlyIn}
+use Rattle.words.specs.Ranges.{SameIn, OnlyIn}
 use Rattle.words.specs.Runs.{splice}
 use Rattle.words.proofs.Parts.{part-same, part-put, part-below, part-above}
 use Rattle.words.proofs.Ranges.{only-wider, splice-only}
@@ -21,14 +21,16 @@ pub element-inside : (a : Area) (p : ℕ) → p < a .count → placeIn a p + a .
 element-inside a p h = omega (arith, mul-le-mul-right (a .each) h)
 
 -- the elements of an area that is as it was are as they were
-pub element-kept : (a : Area) (mem next : List ℕ) → areaEnd a ≤ length mem → SameIn (areaRange a) mem next → (p : ℕ) → p < a .count
+pub element-kept : (a : Area) (mem next : List ℕ) → areaEnd a ≤ length mem → SameIn (areaRange a) mem next → (p : ℕ)
+    → p < a .count
     → wordsAt a p next ≡ wordsAt a p mem
 element-kept a mem next r f p h =
     let e = element-inside a p h in
     part-same (placeIn a p) (a .each) next mem (omega (arith, f .size)) (omega arith)
     (λ i l. f .within (placeIn a p + i) (omega arith) (omega arith))
 
-module _ (a : Area) (mem : List ℕ) (r : areaEnd a ≤ length mem) (p : ℕ) (h : p < a .count) (ws : List ℕ) (w : length ws ≡ a .each) where
+module _ (a : Area) (mem : List ℕ) (r : areaEnd a ≤ length mem) (p : ℕ) (h : p < a .count) (ws : List ℕ)
+    (w : length ws ≡ a .each) where
   room : placeIn a p + length ws ≤ length mem
   room = omega (arith, element-inside a p h)
 
@@ -41,7 +43,8 @@ module _ (a : Area) (mem : List ℕ) (r : areaEnd a ≤ length mem) (p : ℕ) (h
       go : (b : Bool) → ltb o p ≡ b → wordsAt a o (splice mem (placeIn a p) ws) ≡ wordsAt a o mem
       go true e =
           let before : o < p = ltb-true o p e in
-          part-below mem (placeIn a p) ws room (placeIn a o) (a .each) (omega (arith, mul-le-mul-right (a .each) before))
+          part-below mem (placeIn a p) ws room (placeIn a o) (a .each)
+          (omega (arith, mul-le-mul-right (a .each) before))
       go false e =
           let behind : p < o = omega (arith, ltb-false o p e) in
           part-above mem (placeIn a p) ws room (placeIn a o) (a .each)
@@ -52,4 +55,6 @@ module _ (a : Area) (mem : List ℕ) (r : areaEnd a ≤ length mem) (p : ℕ) (h
   store-own = rw w at (splice-only mem (placeIn a p) ws room)
 
   pub store-kept : OnlyIn (areaRange a) mem (splice mem (placeIn a p) ws)
-  store-kept = only-wider (areaRange a) (placeRange a p) mem (splice mem (placeIn a p) ws) (omega arith) (element-inside a p h) store-own
+  store-kept =
+      only-wider (areaRange a) (placeRange a p) mem (splice mem (placeIn a p) ws) (omega arith) (element-inside a p h)
+      store-own

@@ -28,8 +28,8 @@ placeRange a place = range (placeIn a place) (a .each)
 abbrev pub wordsAt : Area → ℕ → List ℕ → List ℕ
 wordsAt a place mem = part (placeIn a place) (a .each) mem
 
--- an area that lies in a memory of so many words. The bounds keep sums of addresses small: no element of either family has more than
--- 19 words, and 4,352 words are the most that a box will have
+-- an area that lies in a memory of so many words. The bounds keep sums of addresses small: no element of either
+-- family has more than 19 words, and 4,352 words are the most that a box will have
 pub record Roomy (a : Area) (words : ℕ) : Type 0 where
   pub few : a .count ≤ 64
   pub header : 2 ≤ a .each

@@ -7,7 +7,8 @@ ghost use Rattle.words.specs.Fields.{onlyNamed};
 ghost use Rattle.registers.specs.Kinds.{field, put, Holds, sectionStart};
 ghost use Rattle.registers.specs.Kinds.{sidfc, sidfcCount, xidfc, xidfcCount, rxfc, rxfcOverwrite, rxfcWatermark};
 ghost use Rattle.registers.specs.Kinds.{rxfcCount, rxbc, rxesc, rxescBuffers, rxescFifo1, rxescFifo0};
-ghost use Rattle.registers.specs.Kinds.{txefc, txefcWatermark, txefcCount, txbc, txbcQueue, txbcShared, txbcDedicated};
+ghost use Rattle.registers.specs.Kinds.{txefc, txefcWatermark, txefcCount};
+ghost use Rattle.registers.specs.Kinds.{txbc, txbcQueue, txbcShared, txbcDedicated};
 ghost use Rattle.registers.specs.Kinds.{txesc, txescSize, gfc, gfcAnfs, gfcAnfe, gfcRrfs, gfcRrfe, xidam, idMask};
 
 // 11-bit filters: count and start.

@@ -13,7 +13,8 @@ pub data Says (A : Type 0) : Type 0 where
 abbrev pub done : Says (Unit {0})
 done = answers tt
 
--- all that a call settles: what it says, and the world and the lent output after it; of a call that is lent none the output is empty
+-- all that a call settles: what it says, and the world and the lent output after it; of a call that is lent none the
+-- output is empty
 pub record Outcome (W A : Type 0) : Type 0 where
   pub says : Says A
   pub world : W
@@ -26,7 +27,8 @@ outcome x w out = record { says = x; world = w; output = out }
 abbrev pub settles : {W A : Type 0} → Says A → W → Outcome W A
 settles x w = outcome x w []
 
--- what a call does where nothing is against it: its answer, and the world and the output that it leaves. An effect cannot refuse
+-- what a call does where nothing is against it: its answer, and the world and the output that it leaves. An effect
+-- cannot refuse
 pub record Effect (W A : Type 0) : Type 0 where
   pub answer : A
   pub world : W

@@ -28,7 +28,8 @@ module _ {Book Call : Type 0} {Answer : Call → Type 0} (note : Book → (c : C
   book b (t ∷ ts) = book (note b (t .0) (t .1 .says)) ts
 
   -- the history that the calls alone give, where all that is told is known from the book
-  abbrev pub foretold : ((b : Book) (c : Call) → Told (Answer c)) → Book → List Call → List ((c : Call) × Told (Answer c))
+  abbrev pub foretold : ((b : Book) (c : Call) → Told (Answer c)) → Book → List Call
+      → List ((c : Call) × Told (Answer c))
   foretold expect b [] = []
   foretold expect b (c ∷ cs) = (c, expect b c) ∷ foretold expect (note b c (expect b c .says)) cs
 

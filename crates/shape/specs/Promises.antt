@@ -6,7 +6,8 @@ use mathlib.Core.Logic.{_↔_}
 use Rattle.shape.specs.Refusals.{Refusal, Refusals, First, NoneRefuses}
 use Rattle.shape.specs.Calls.{Says, refuses, answers, outcome, Effect, effected, call}
 
--- it gives a refusal exactly where that is the first, and then nothing changes; it answers exactly where none refuses, and then it has its effect
+-- it gives a refusal exactly where that is the first, and then nothing changes; it answers exactly where none
+-- refuses, and then it has its effect
 pub record Shaped {W A : Type 0} (w : W) (out : List ℕ) (rows : Refusals) (e : Effect W A) : Type 0 where
   pub refused : (n : Refusal) → (call w out rows e .says ≡ refuses n) ↔ First rows n
   pub stays : (n : Refusal) → call w out rows e .says ≡ refuses n → call w out rows e ≡ outcome (refuses n) w out

@@ -1,1 +1,2 @@
-// One shape for every call, over any world. There is no code here: the definitions and their laws stand in specs and proofs.
+// One shape for every call, over any world. There is no code here: the definitions and their laws stand in specs and
+// proofs.

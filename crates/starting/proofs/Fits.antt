@@ -42,10 +42,13 @@ empty-sound regs words e = record {
   sent = pow-pos _;
   cancelled = pow-pos _;
   newdata = pow-pos _;
-  heldBits = λ p h. ap (λ (x : ℕ). eqb x 1) (no-bit (dedicated regs + p)) ∙ sym (empty-not-held noneHeld (sharedRingSize regs) p refl);
+  heldBits =
+      λ p h. ap (λ (x : ℕ). eqb x 1) (no-bit (dedicated regs + p))
+      ∙ sym (empty-not-held noneHeld (sharedRingSize regs) p refl);
 }
 
-pub empty-is-fit : (regs : Registers) (words : ℕ) → verdict memoryWords regs words ≡ allowed → unfit (emptyState regs) noFlags words ≡ false
+pub empty-is-fit : (regs : Registers) (words : ℕ) → verdict memoryWords regs words ≡ allowed
+    → unfit (emptyState regs) noFlags words ≡ false
 empty-is-fit regs words e = fit-of (emptyState regs) noFlags words (empty-sound regs words e) (λ k f. no-bit k)
 
 -- the verdict is the first of the layout's rules

@@ -24,13 +24,15 @@ use Rattle.starting.specs.Starting.{flat, unreported, startSays, starts,
 use Rattle.starting.proofs.Fits.{start-ruled}
 
 module _ (old : State) (recorded : Record) (regs : Registers) (mem : List ℕ) (v : Verdict) (ss : List Section)
-    (e : meaning v ≡ verdict memoryWords regs (length mem)) (q : ss ≡ reported (verdict memoryWords regs (length mem)) regs)
+    (e : meaning v ≡ verdict memoryWords regs (length mem))
+    (q : ss ≡ reported (verdict memoryWords regs (length mem)) regs)
     (b : Bool) (t : b ≡ isAllowed (meaning v)) where
   abbrev Before : World
   Before = world old recorded mem
 
   left : (x : Ruling Refusal) → verdict memoryWords regs (length mem) ≡ x → (s : State) (r : Record)
-      → outcome (startSays (meaning v)) (world s r mem) (flat ss) ≡ outcome (startSays x) (world s r mem) (flat (reported x regs))
+      → outcome (startSays (meaning v)) (world s r mem) (flat ss) ≡ outcome (startSays x) (world s r mem)
+      (flat (reported x regs))
   left x p s r =
       ap₂ (λ (y : Says (Unit {0})) (l : List ℕ). outcome y (world s r mem) l) (ap startSays (e ∙ p))
       (ap flat (q ∙ ap (λ (y : Ruling Refusal). reported y regs) p))
@@ -40,14 +42,20 @@ module _ (old : State) (recorded : Record) (regs : Registers) (mem : List ℕ) (
   started y s r u w =
       let a : verdict memoryWords regs (length mem) ≡ allowed = is-allowed _ (sym (t ∙ ap isAllowed e) ∙ y) in
       left allowed a s r ∙ ap₂ (λ (x : State) (z : Record). outcome done (world x z mem) (flat (sectionsOf regs))) u w
-      ∙ sym (call-done Before unreported (rules memoryWords regs (length mem)) (starts Before regs) (start-ruled regs (length mem) ∙ a))
+      ∙ sym
+      (call-done Before unreported (rules memoryWords regs (length mem)) (starts Before regs)
+      (start-ruled regs (length mem) ∙ a))
 
   pub not-started : b ≡ false → outcome (startSays (meaning v)) (world old recorded mem) (flat ss) ≡ start Before regs
   not-started n = go (verdict memoryWords regs (length mem)) refl (sym (t ∙ ap isAllowed e) ∙ n)
     where
-      go : (x : Ruling Refusal) → verdict memoryWords regs (length mem) ≡ x → isAllowed (verdict memoryWords regs (length mem)) ≡ false
+      go : (x : Ruling Refusal) → verdict memoryWords regs (length mem) ≡ x
+          → isAllowed (verdict memoryWords regs (length mem)) ≡ false
           → outcome (startSays (meaning v)) (world old recorded mem) (flat ss) ≡ start Before regs
-      go allowed p h = let z : true ≡ false = sym (ap isAllowed p) ∙ h in let k : _≡_ {A = ℕ} 0 1 = cc in absurd (omega arith)
+      go allowed p h =
+          let z : true ≡ false = sym (ap isAllowed p) ∙ h in let k : _≡_ {A = ℕ} 0 1 = cc in absurd (omega arith)
       go (refused a) p h =
           left (refused a) p old recorded
-          ∙ sym (call-refused Before unreported (rules memoryWords regs (length mem)) (starts Before regs) a (start-ruled regs (length mem) ∙ p))
+          ∙ sym
+          (call-refused Before unreported (rules memoryWords regs (length mem)) (starts Before regs) a
+          (start-ruled regs (length mem) ∙ p))

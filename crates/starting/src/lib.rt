@@ -21,8 +21,8 @@ pub struct Started {
 
 // Takes the old state and record, which a refusal gives back as they were. The memory is only measured.
 pub fn start(old: State, recorded: Record, regs: Registers, mem: &[u32]) -> Started
-    ensures { λ r. ⌜ outcome (startSays (meaning (r .verdict))) (world (r .state) (r .recorded) (now (mem .entry))) (flat (r .sections))
-        ≡ startCall (world old recorded (now (mem .entry))) regs ⌝ }
+    ensures { λ r. ⌜ outcome (startSays (meaning (r .verdict))) (world (r .state) (r .recorded) (now (mem .entry)))
+        (flat (r .sections)) ≡ startCall (world old recorded (now (mem .entry))) regs ⌝ }
 {
     let report = judge(regs, mem.len());
     let verdict = report.verdict;

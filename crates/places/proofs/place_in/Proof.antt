@@ -8,4 +8,5 @@ use Rattle.places.proofs.place_in.Tie as tie
 pub place-in-spec : {M : Type 1} → statement M
 place-in-spec =
     tie.close
-    (tie.spec (λ c. search (row-fits, needs)) (λ c. search (place-fits, needs)) (λ c. (refl, search (place-room, needs))))
+    (tie.spec (λ c. search (row-fits, needs)) (λ c. search (place-fits, needs))
+    (λ c. (refl, search (place-room, needs))))

@@ -1,0 +1,3 @@
+pub mod Entering
+pub mod EngineCalls
+pub mod Promises

@@ -1,0 +1,5 @@
+pub mod Words
+pub mod States
+pub mod Frames
+pub mod Needs
+pub mod Promises

@@ -1,0 +1,172 @@
+// A state, its registers and a record as words, and back.
+use crate::buffers::put;
+use crate::buffers::word_at;
+use engine::state::Record;
+use engine::state::State;
+use frame::bit_of;
+use registers::Registers;
+use registers::kinds::Gfc;
+use registers::kinds::Rxbc;
+use registers::kinds::Rxesc;
+use registers::kinds::Rxfc;
+use registers::kinds::Sidfc;
+use registers::kinds::Txbc;
+use registers::kinds::Txefc;
+use registers::kinds::Txesc;
+use registers::kinds::Xidam;
+use registers::kinds::Xidfc;
+use ring::Ring;
+ghost use mathlib.Core.Path.{_≡_};
+ghost use Prim.Native.Nat.{_+_, _*_, _^_, _≤_, _<_};
+ghost use lib.ListN.{length};
+ghost use Rattle.c_words.specs.Needs.{StateWords, BoxWords};
+ghost use Rattle.c_words.specs.States.{plainRegisters, unpackRegisters, unpackRing, unpackState, packState};
+ghost use Rattle.c_words.specs.States.{ComesBack};
+ghost use Rattle.c_words.specs.States.{unpackRecord, packRecord};
+
+pub const STATE_WORDS: usize = 27;
+
+pub const RECORD_WORDS: usize = 2;
+
+pub const REGISTER_WORDS: usize = 14;
+
+// The two words that say yes or no are 0 or 1.
+pub fn is_plain_registers(words: &[u32]) -> bool
+    ensures { λ b. ⌜ b ≡ plainRegisters (now (words .entry)) ⌝ }
+{
+    let fdon = word_at(words, 12);
+    let rateon = word_at(words, 13);
+    (fdon < 2) & (rateon < 2)
+}
+
+pub fn take_registers(words: &[u32]) -> Registers
+    requires { ⌜ 14 ≤ length (now words) ⌝ }
+    ensures { λ r. ⌜ r ≡ unpackRegisters (now (words .entry)) ⌝ }
+{
+    Registers {
+        sidfc: Sidfc { word: words[0] },
+        xidfc: Xidfc { word: words[1] },
+        rxf0c: Rxfc { word: words[2] },
+        rxf1c: Rxfc { word: words[3] },
+        rxbc: Rxbc { word: words[4] },
+        rxesc: Rxesc { word: words[5] },
+        txefc: Txefc { word: words[6] },
+        txbc: Txbc { word: words[7] },
+        txesc: Txesc { word: words[8] },
+        gfc: Gfc { word: words[9] },
+        xidam: Xidam { word: words[10] },
+        buffers: words[11],
+        fdon: words[12] == 1,
+        rateon: words[13] == 1,
+    }
+}
+
+fn take_ring(words: &[u32], at: usize) -> Ring
+    requires { ⌜ at + 1 < length (now words) ⌝ }
+    ensures { λ r. ⌜ r ≡ unpackRing (now (words .entry)) at ⌝ }
+{
+    Ring {
+        oldest: words[at],
+        fill: words[at + 1],
+    }
+}
+
+// 64 bits of two words, the lower first.
+fn joined(low: u32, high: u32) -> u64
+    ensures { λ w. ⌜ w ≡ low + high * 2 ^ 32 ⌝ }
+{
+    low as u64 + high as u64 * 0x1_0000_0000
+}
+
+// Packed again it gives the same words.
+pub fn take_state(words: &[u32]) -> State
+    requires { ⌜ StateWords (now words) ⌝ }
+    ensures { λ s. ⌜ (s ≡ unpackState (now (words .entry))) × ComesBack (now (words .entry)) ⌝ }
+{
+    let regs = take_registers(words);
+    let fifo0 = take_ring(words, 14);
+    let fifo1 = take_ring(words, 16);
+    let events = take_ring(words, 18);
+    let shared = take_ring(words, 20);
+    State {
+        regs,
+        fifo0,
+        fifo1,
+        events,
+        shared,
+        newdata: joined(words[22], words[23]),
+        pending: words[24],
+        sent: words[25],
+        cancelled: words[26],
+    }
+}
+
+fn pack_state(s: State) -> [u32; 27]
+    ensures { λ ws. ⌜ ws ≡ packState s ⌝ }
+{
+    let fdon = bit_of(s.regs.fdon);
+    let rateon = bit_of(s.regs.rateon);
+    [
+        s.regs.sidfc.word,
+        s.regs.xidfc.word,
+        s.regs.rxf0c.word,
+        s.regs.rxf1c.word,
+        s.regs.rxbc.word,
+        s.regs.rxesc.word,
+        s.regs.txefc.word,
+        s.regs.txbc.word,
+        s.regs.txesc.word,
+        s.regs.gfc.word,
+        s.regs.xidam.word,
+        s.regs.buffers,
+        fdon,
+        rateon,
+        s.fifo0.oldest,
+        s.fifo0.fill,
+        s.fifo1.oldest,
+        s.fifo1.fill,
+        s.events.oldest,
+        s.events.fill,
+        s.shared.oldest,
+        s.shared.fill,
+        (s.newdata % 0x1_0000_0000) as u32,
+        (s.newdata / 0x1_0000_0000) as u32,
+        s.pending,
+        s.sent,
+        s.cancelled,
+    ]
+}
+
+pub fn put_state(words: &mut [u32], s: State)
+    requires { ⌜ length (now words) ≡ 27 ⌝ }
+    ensures { λ _. ⌜ now (words .exit) ≡ packState s ⌝ }
+{
+    let packed = pack_state(s);
+    put(words, 0, &packed)
+}
+
+pub fn take_record(words: &[u32]) -> Record
+    requires { ⌜ length (now words) ≡ 2 ⌝ }
+    ensures { λ r. ⌜ r ≡ unpackRecord (now (words .entry)) ⌝ }
+{
+    Record {
+        flags: words[0],
+        priority: words[1],
+    }
+}
+
+pub fn put_record(words: &mut [u32], r: Record)
+    requires { ⌜ length (now words) ≡ 2 ⌝ }
+    ensures { λ _. ⌜ now (words .exit) ≡ packRecord r ⌝ }
+{
+    put(words, 0, &[r.flags, r.priority])
+}
+
+// The state and its record at once.
+pub fn put_both(state: &mut [u32], recorded: &mut [u32], s: State, r: Record)
+    requires { ⌜ BoxWords (now state) (now recorded) ⌝ }
+    ensures { λ _. ⌜ (now (state .exit) ≡ packState s) × (now (recorded .exit) ≡ packRecord r) ⌝ }
+{
+    put_state(state, s);
+    put_record(recorded, r)
+}

@@ -1,4 +1,0 @@
-pub mod Words
-pub mod States
-pub mod Frames
-pub mod Promises
