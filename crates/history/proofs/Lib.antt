@@ -2,3 +2,9 @@ pub mod Sections
 pub mod Agreeing
 pub mod Elements
 pub mod Buffers
+pub mod Receiving
+pub mod Sending
+pub mod Status
+pub mod Steps
+pub mod Runs
+pub mod NeverUnfit

@@ -34,7 +34,7 @@ use Rattle.shape.proofs.Calls.{call-cases}
 use Rattle.engine.specs.Buffers.{noTxBuffer, isPending, inSharedFifo}
 use Rattle.engine.specs.Calls.{World, Outcome, _when_, isUnfit}
 use Rattle.engine.specs.declared.state.State.{State}
-use Rattle.requesting.specs.Places.{requested, freePlace, freeBuffer, sharedAfter}
+use Rattle.requesting.specs.Places.{queuePlace, fifoPlace, freePlace, freeBuffer, sharedAfter}
 use Rattle.requesting.specs.Requesting.{written, requests, dedicatedRefusals, sharedRefusals}
 use Rattle.requesting.specs.Cancelling.{cancels, cancelRefusals}
 use Rattle.requesting.proofs.Opens.{dedicated-open, shared-open, cancel-open}
@@ -116,7 +116,7 @@ dedicated-leaves l w i buffer h d typed =
 module _ (l : Book) (s : State) (mem : List ℕ) (h : TxAgrees (s .regs) l s mem) where
   -- the book has the same free place
   free-told : freePlace s ≡ freeShared (s .regs) l
-  unfolding freePlace freeShared
+  unfolding freePlace queuePlace fifoPlace freeShared
   free-told = go (isQueue (s .regs)) refl
     where
       n : ℕ
