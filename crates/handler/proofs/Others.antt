@@ -137,7 +137,7 @@ others w (readBuffer buffer out) e =
     (output-fits (length out) (rows-both (bufferRefusals w buffer) (outputRefusals (length out)) e .1))
 others w (releaseBuffer buffer) e = parts-change _ w _ refl (stays (newData ∷ []) _ w refl (λ h. refl) (λ h. refl))
 others w (requestDedicated buffer h d) e = record {
-  memory = dedicated-only w h d buffer e;
+  memory = dedicated-only w buffer h d e;
   output = only-none _ _;
   parts = stays (pending ∷ sent ∷ cancelled ∷ []) _ w refl (λ x. refl) (λ x. refl);
 }
