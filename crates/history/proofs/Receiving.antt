@@ -207,7 +207,7 @@ module _ (began : List ℕ) (b : Book) (w : World) (fit : isUnfit w ≡ false)
         told-by w out (reads w (fifoArea g fifo) place out) _ _ (isUnfit w) (fifoRows ++ outputRefusals (length out))
         (fifoAgainst g b fifo place ++ outputRefusals (length out)) fit (place-told (outputRefusals (length out)))
         (λ e.
-        let o = opened (sym (place-told (outputRefusals (length out))) ∙ e) in
+        let o = opened (place-told (outputRefusals (length out)) ∙ e) in
         read-alone w (fifoArea g fifo) place (o .element) (entryAt place (fifoLedger b fifo .held) .words)
         (words-told (fifoArea g fifo) (fifoLedger b fifo) (fifoRing (w .state) fifo) mem (h .fifos fifo (o .number)) place
         (o .holds .holds))
@@ -251,7 +251,7 @@ module _ (began : List ℕ) (b : Book) (w : World) (fit : isUnfit w ≡ false)
         told-by w out (reads w (bufferArea g) buffer out) _ _ (isUnfit w) (bufferRows ++ outputRefusals (length out))
         (bufferAgainst g b buffer ++ outputRefusals (length out)) fit (buffer-told (outputRefusals (length out)))
         (λ e.
-        let o = opened (sym (buffer-told (outputRefusals (length out))) ∙ e) in
+        let o = opened (buffer-told (outputRefusals (length out)) ∙ e) in
         read-alone w (bufferArea g) buffer (o .element) (lastIn buffer (b .buffered))
         (h .buffers .words buffer (ap (λ (n : ℕ). isSet n buffer) (sym (h .newdata)) ∙ o .full)) out)
       where

@@ -76,12 +76,12 @@ module _ (began : List ℕ) (b : Book) (w : World) (fit : isUnfit w ≡ false)
   -- a start that is refused changes nothing
   start-kept : (g : Registers) → isAllowed (verdict memoryWords g (length began)) ≡ false
       → Kept (start g) (Starting.start w g)
-  start-kept g no =
+  start-kept g turned =
       call-cases w unreported (rules memoryWords g (length (w .memory))) (starts w g) (Kept (start g)) (λ n. h)
       (λ e.
       let yes : verdict memoryWords g (length began) ≡ allowed
       = ap (verdict memoryWords g) (sym (h .rest .size)) ∙ sym (start-ruled g (length (w .memory))) ∙ e in
-      absurd (true≢false (ap isAllowed (sym yes) ∙ no)))
+      absurd (true≢false (ap isAllowed (sym yes) ∙ turned)))
 
   -- nor does a call whose effect changes nothing that the book tells of
   same-kept : (c : Call) → Kept c (effected (does w c)) → Kept c (step w c)
