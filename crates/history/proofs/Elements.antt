@@ -1,7 +1,7 @@
 -- An element reads as its own words do.
 -- Assumes nothing.
-use Prim.Native.Nat.{ℕ, _+_, _*_, _<_, min}
-use mathlib.Core.Path.{_≡_, refl, sym, ap, ap₂, _∙_}
+use Prim.Native.Nat.{ℕ, _+_, _*_, min}
+use mathlib.Core.Path.{_≡_, sym, ap, ap₂, _∙_}
 use mathlib.Core.List.{List}
 use native.Mathlib.Omega.{arith}
 use lib.ListN.{length}
@@ -18,7 +18,7 @@ use Rattle.places.specs.declared.Area.{Area}
 use Rattle.places.proofs.Rooms.{place-room}
 use Rattle.areas.specs.Areas.{dataWords}
 use Rattle.shape.specs.Calls.{answers, effected}
-use Rattle.shape.specs.Histories.{Told, told}
+use Rattle.shape.specs.Histories.{told}
 use Rattle.engine.specs.Calls.{World}
 use Rattle.taking.specs.Reading.{reads}
 

@@ -2,12 +2,12 @@
 -- Assumes nothing.
 use Prim.Native.Nat.{ℕ}
 use mathlib.Core.Path.{_≡_, refl, sym, ap, _∙_}
-use mathlib.Core.Bool.{Bool, true, false, true≢false, _&&_, and-false}
+use mathlib.Core.Bool.{Bool, false, true≢false, _&&_, and-false}
 use mathlib.Core.List.{List, [], _∷_}
 use native.Mathlib.Omega.{arith}
 use borrow.Author.Tests.{eqb-false}
 use lib.Dec.{eqb}
-use Rattle.words.specs.Rules.{Ruling, allowed, refused, refuseIf, first}
+use Rattle.words.specs.Rules.{Ruling, allowed, refused, first}
 use Rattle.words.proofs.Rulings.{refused-by}
 use Rattle.shape.specs.Refusals.{Refusal, Refusals}
 use Rattle.shape.proofs.Calls.{is-first}
@@ -47,31 +47,76 @@ none-gives (refused c ∷ rs) h a e q = h .0 a e q
 
 rows-none : (w : World) (c : Call) → isUnfit w ≡ false → Each NotTwenty (rows w c)
 unfolding rows
-rows-none w c fit =
-    (other (given c) 10 (1 ∷ []) _ refl,
-    (other (given c) 11 (1 ∷ []) _ refl,
-    (other-named (given c) _ (1 ∷ []) _ refl,
-    (other (given c) 13 (1 ∷ []) _ refl,
-    (other-named (given c) _ (1 ∷ []) _ refl,
-    (other-named (given c) _ (1 ∷ []) _ refl,
-    (off (given c) 20 allButStart (isUnfit w) fit,
-    (other (given c) 21 (2 ∷ 7 ∷ 8 ∷ []) _ refl,
-    (other (given c) 22 (2 ∷ []) _ refl,
-    (other (given c) 23 (3 ∷ 4 ∷ []) _ refl,
-    (other (given c) 23 (5 ∷ 6 ∷ []) _ refl,
-    (other (given c) 23 (7 ∷ []) _ refl,
-    (other (given c) 23 (9 ∷ 11 ∷ []) _ refl,
-    (other (given c) 23 (12 ∷ 13 ∷ []) _ refl,
-    (other (given c) 24 (7 ∷ []) _ refl,
-    (other (given c) 25 (8 ∷ []) _ refl,
-    (other (given c) 26 (9 ∷ []) _ refl,
-    (other (given c) 27 (9 ∷ []) _ refl,
-    (other (given c) 28 (11 ∷ []) _ refl,
-    (other (given c) 29 (3 ∷ 4 ∷ []) _ refl,
-    (other (given c) 29 (5 ∷ 6 ∷ []) _ refl,
-    (other (given c) 29 (12 ∷ 13 ∷ []) _ refl,
-    (other (given c) 30 (3 ∷ 5 ∷ 10 ∷ []) _ refl,
-    tt)))))))))))))))))))))))
+rows-none w c fit = (
+  other (given c) 10 (1 ∷ []) _ refl,
+  (
+    other (given c) 11 (1 ∷ []) _ refl,
+    (
+      other-named (given c) _ (1 ∷ []) _ refl,
+      (
+        other (given c) 13 (1 ∷ []) _ refl,
+        (
+          other-named (given c) _ (1 ∷ []) _ refl,
+          (
+            other-named (given c) _ (1 ∷ []) _ refl,
+            (
+              off (given c) 20 allButStart (isUnfit w) fit,
+              (
+                other (given c) 21 (2 ∷ 7 ∷ 8 ∷ []) _ refl,
+                (
+                  other (given c) 22 (2 ∷ []) _ refl,
+                  (
+                    other (given c) 23 (3 ∷ 4 ∷ []) _ refl,
+                    (
+                      other (given c) 23 (5 ∷ 6 ∷ []) _ refl,
+                      (
+                        other (given c) 23 (7 ∷ []) _ refl,
+                        (
+                          other (given c) 23 (9 ∷ 11 ∷ []) _ refl,
+                          (
+                            other (given c) 23 (12 ∷ 13 ∷ []) _ refl,
+                            (
+                              other (given c) 24 (7 ∷ []) _ refl,
+                              (
+                                other (given c) 25 (8 ∷ []) _ refl,
+                                (
+                                  other (given c) 26 (9 ∷ []) _ refl,
+                                  (
+                                    other (given c) 27 (9 ∷ []) _ refl,
+                                    (
+                                      other (given c) 28 (11 ∷ []) _ refl,
+                                      (
+                                        other (given c) 29 (3 ∷ 4 ∷ []) _ refl,
+                                        (
+                                          other (given c) 29 (5 ∷ 6 ∷ []) _ refl,
+                                          (
+                                            other (given c) 29 (12 ∷ 13 ∷ []) _ refl,
+                                            (
+                                              other (given c) 30 (3 ∷ 5 ∷ 10 ∷ []) _ refl,
+                                              tt,
+                                            ),
+                                          ),
+                                        ),
+                                      ),
+                                    ),
+                                  ),
+                                ),
+                              ),
+                            ),
+                          ),
+                        ),
+                      ),
+                    ),
+                  ),
+                ),
+              ),
+            ),
+          ),
+        ),
+      ),
+    ),
+  ),
+)
 
 pub never-20 : Never20
 never-20 r c a e q =

@@ -4,8 +4,7 @@ use Prim.Native.Nat.{ℕ, _≤_, _<_}
 use mathlib.Core.Path.{_≡_, refl, sym, ap, _∙_, subst}
 use mathlib.Core.Bool.{Bool, true, false, not, _&&_, _||_}
 use mathlib.Core.List.{List, [], _∷_, _++_}
-use native.Mathlib.Omega.{arith}
-use borrow.Author.Tests.{ltb-false, not-false, leb-false}
+use borrow.Author.Tests.{ltb-false}
 use lib.Dec.{ltb, leb}
 use lib.ListN.{length}
 use Rattle.words.specs.Bits.{isSet, withBit, withoutBit}
@@ -13,7 +12,6 @@ use Rattle.words.specs.Rules.{allowed, first}
 use Rattle.words.specs.Runs.{splice}
 use Rattle.words.proofs.Ranges.{only-none}
 use Rattle.ring.specs.Rings.{releasedThrough}
-use Rattle.ring.specs.declared.Ring.{Ring}
 use Rattle.frame.specs.Malformed.{malformed}
 use Rattle.frame.specs.declared.Frame.{Frame}
 use Rattle.frame.specs.declared.Matched.{Matched}
@@ -40,11 +38,11 @@ use Rattle.shape.proofs.Calls.{rows-both, call-cases}
 use Rattle.engine.specs.Calls.{World, withState, Outcome, Effect, _when_, isUnfit, outputRefusals}
 use Rattle.engine.specs.Keeping.{keepRule}
 use Rattle.engine.specs.States.{fifoRing}
-use Rattle.engine.specs.declared.state.State.{State}
 use Rattle.engine.proofs.Calls.{row-passes}
 use Rattle.engine.proofs.Sounds.{sound-of}
 use Rattle.receiving.specs.Receive
-use Rattle.receiving.specs.Receive.{Fate, arrival, slotSays, receiveRefusals, intoFifo, intoBuffer, intoNothing, goesTo, receives}
+use Rattle.receiving.specs.Receive.{Fate, arrival, slotSays, receiveRefusals, intoFifo, intoBuffer, intoNothing, goesTo}
+use Rattle.receiving.specs.Receive.{receives}
 use Rattle.receiving.proofs.Elements.{arrival-length}
 use Rattle.receiving.proofs.Judgements.{receive-open}
 use Rattle.receiving.proofs.Lists.{legal-lists}
@@ -55,14 +53,14 @@ use Rattle.taking.specs.Reading.{reads}
 use Rattle.taking.specs.Releasing
 use Rattle.taking.specs.Releasing.{released, emptied}
 use Rattle.taking.proofs.Judgements.{FifoOpen, fifo-open, BufferOpen, buffer-open}
-use Rattle.books.specs.Ledgers.{Ledger, noteArrival, noteRelease, isHeldAt, entryAt}
+use Rattle.books.specs.Ledgers.{noteArrival, noteRelease, isHeldAt, entryAt}
 use Rattle.books.proofs.Arrivals.{arrival-told, arrival-agrees, arrival-keeps}
 use Rattle.books.proofs.Releases.{release-told, release-agrees}
 use Rattle.books.proofs.Seen.{words-told}
 use Rattle.requests.proofs.Telling.{told-by}
 use Rattle.handler.specs.Calls.{Call, receive, readFifo, acknowledgeFifo, readBuffer, releaseBuffer, Answer}
 use Rattle.history.specs.Books.{Book, fifoLedger, lastIn, frameIn, noteFifo, noteFate, note}
-use Rattle.history.specs.Expected.{fateOf, expectReceive, fifoAgainst, bufferAgainst, expectRead, expectDone, expect}
+use Rattle.history.specs.Expected.{fateOf, expectReceive, fifoAgainst, bufferAgainst, expectRead, expect}
 use Rattle.history.specs.Standing.{BookAgrees}
 use Rattle.history.proofs.Agreeing.{fifo-agreed, buffers-agreed}
 use Rattle.history.proofs.Buffers.{put-buffer, free-buffer}
@@ -156,7 +154,8 @@ module _ (began : List ℕ) (b : Book) (w : World) (fit : isUnfit w ≡ false)
     unfolding receiveRefusals expectReceive
     receive-told =
         let rows : Refusals = 21 when malformed f (length d) ∷ 22 when (f .fdf && not (g .fdon)) ∷ [] in
-        told-by w [] (receives w f d time) (fateOf g b (destination g began f (b .newdata))) [] (isUnfit w) rows rows fit
+        told-by w [] (receives w f d time) (fateOf g b (destination g began f (b .newdata))) [] (isUnfit w) rows rows
+        fit
         refl
         (λ e.
         goes-told (destination g mem f (w .state .newdata))
@@ -174,7 +173,8 @@ module _ (began : List ℕ) (b : Book) (w : World) (fit : isUnfit w ≡ false)
       where
         go : (t : Bool) → ltb 1 fifo ≡ t
             → first (23 when (t || leb (fifoSize g fifo) place) ∷ 29 when placeFree (w .state) fifo place ∷ more)
-            ≡ first (23 when (t || leb (fifoSize g fifo) place) ∷ 29 when not (isHeldAt place (fifoLedger b fifo)) ∷ more)
+            ≡ first
+            (23 when (t || leb (fifoSize g fifo) place) ∷ 29 when not (isHeldAt place (fifoLedger b fifo)) ∷ more)
         go true e = refl
         go false e =
             ap (λ (u : Bool). first (23 when leb (fifoSize g fifo) place ∷ 29 when not u ∷ more))
@@ -209,8 +209,8 @@ module _ (began : List ℕ) (b : Book) (w : World) (fit : isUnfit w ≡ false)
         (λ e.
         let o = opened (place-told (outputRefusals (length out)) ∙ e) in
         read-alone w (fifoArea g fifo) place (o .element) (entryAt place (fifoLedger b fifo .held) .words)
-        (words-told (fifoArea g fifo) (fifoLedger b fifo) (fifoRing (w .state) fifo) mem (h .fifos fifo (o .number)) place
-        (o .holds .holds))
+        (words-told (fifoArea g fifo) (fifoLedger b fifo) (fifoRing (w .state) fifo) mem (h .fifos fifo (o .number))
+        place (o .holds .holds))
         out)
       where
         opened : first (fifoRows ++ outputRefusals (length out)) ≡ allowed → FifoOpen w fifo place

@@ -2,7 +2,7 @@
 -- Assumes nothing.
 use Prim.Native.Nat.{ℕ, zero, suc, _≤_}
 use mathlib.Core.Path.{_≡_, refl, sym, ap, _∙_}
-use mathlib.Core.Bool.{true, false, true≢false}
+use mathlib.Core.Bool.{true, true≢false}
 use mathlib.Core.List.{List}
 use native.Mathlib.Omega.{arith}
 use lib.Dec.{eqb}
@@ -20,7 +20,7 @@ use Rattle.filter.specs.Destination.{Goes, destination}
 use Rattle.filter.proofs.OwnSection.{destination-reads-its-list}
 use Rattle.areas.specs.Areas.{fifoArea, eventArea}
 use Rattle.areas.proofs.Rooms.{fifo-roomy, event-roomy}
-use Rattle.shape.specs.Calls.{Says, done}
+use Rattle.shape.specs.Calls.{done}
 use Rattle.shape.specs.Histories.{Told}
 use Rattle.shape.proofs.Calls.{call-answers}
 use Rattle.engine.specs.Calls.{World}
@@ -32,8 +32,8 @@ use Rattle.books.proofs.Holding.{empty-agrees}
 use Rattle.books.proofs.Runs.{run-keeps, run-foretold}
 use Rattle.requests.proofs.Holding.{start-agrees}
 use Rattle.requests.proofs.Reporting.{reported-is-chosen}
-use Rattle.handler.specs.Calls.{start, askChoice, reportSent, Answer, step}
-use Rattle.history.specs.Books.{Book, emptyBook, fifoLedger, note}
+use Rattle.handler.specs.Calls.{start, askChoice, reportSent, step}
+use Rattle.history.specs.Books.{emptyBook, fifoLedger, note}
 use Rattle.history.specs.Demand3.{InRun, Run, began, now, bookOf, Demand3, Answers, FiltersSuffice, SentInForm}
 use Rattle.history.specs.Expected.{expectBy, expect}
 use Rattle.history.specs.Standing.{BookAgrees}

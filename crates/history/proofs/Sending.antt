@@ -8,7 +8,7 @@ use native.Mathlib.Omega.{arith}
 use lib.ListN.{length}
 use Rattle.words.specs.Best.{somebody}
 use Rattle.words.specs.Choice.{pick}
-use Rattle.words.specs.Rules.{allowed, first}
+use Rattle.words.specs.Rules.{first}
 use Rattle.words.proofs.Ranges.{only-none}
 use Rattle.registers.specs.Fields.{eventSize}
 use Rattle.registers.specs.declared.Registers.{Registers}
@@ -20,13 +20,12 @@ use Rattle.layout.specs.Sections.{memoryWords}
 use Rattle.places.specs.Areas.{areaRange}
 use Rattle.places.specs.declared.Slot.{Slot}
 use Rattle.areas.specs.Areas.{eventArea}
-use Rattle.shape.specs.Calls.{Says, refuses, answers, done, settles, leaves, tells}
+use Rattle.shape.specs.Calls.{Says, refuses, answers, leaves, tells}
 use Rattle.shape.specs.Histories.{told, noted}
 use Rattle.shape.specs.Refusals.{Refusals}
-use Rattle.shape.proofs.Calls.{call-cases, call-done}
+use Rattle.shape.proofs.Calls.{call-cases}
 use Rattle.engine.specs.Calls.{World, withState, Outcome, _when_, isUnfit}
 use Rattle.engine.specs.Keeping.{keepRule}
-use Rattle.engine.specs.declared.state.State.{State}
 use Rattle.engine.proofs.Calls.{row-passes}
 use Rattle.engine.proofs.Sounds.{sound-of}
 use Rattle.requesting.specs.Requesting
@@ -46,7 +45,6 @@ use Rattle.books.proofs.Seen.{words-told}
 use Rattle.requests.specs.Requests
 use Rattle.requests.specs.Requests.{asked, Typed, requestIn}
 use Rattle.requests.specs.Expected.{bestOf, formOf, eventFor}
-use Rattle.requests.specs.Promises.{reportOf}
 use Rattle.requests.specs.Standing.{InStep, Leaves, LeavesTx}
 use Rattle.requests.proofs.Choosing.{choice-best}
 use Rattle.requests.proofs.Reporting.{report-due, report-leaves}
@@ -54,7 +52,7 @@ use Rattle.requests.proofs.Requesting.{dedicated-leaves, shared-leaves, cancel-
 use Rattle.requests.proofs.Telling.{told-by}
 use Rattle.handler.specs.Calls.{Call, requestDedicated, requestShared, cancel, reportSent, readEvent, acknowledgeEvent}
 use Rattle.handler.specs.Calls.{Answer}
-use Rattle.history.specs.Books.{Book, withSending, withRequests, noteReport, note}
+use Rattle.history.specs.Books.{Book, withSending, withRequests, note}
 use Rattle.history.specs.Expected.{eventAgainst, expectReadEvent, expect}
 use Rattle.history.specs.Standing.{BookAgrees}
 use Rattle.history.proofs.Agreeing.{ring-elsewhere, requests-elsewhere, sending-agreed}
@@ -90,8 +88,8 @@ module _ (began : List ℕ) (b : Book) (w : World) (fit : isUnfit w ≡ false)
       (sending-agreed g began b (w .state) mem legal h (o .world .memory) 4 (omega arith) (omega arith)
       (v .left .memory) (o .world .state) (v .left .state) (b .events) (noted l next (o .says))
       (rw (v .events)
-      (ring-elsewhere g mem (o .world .memory) legal 4 (omega arith) (v .left .memory) 3 (omega arith) (λ e. omega arith)
-      (b .events) (w .state .events) (h .events)))
+      (ring-elsewhere g mem (o .world .memory) legal 4 (omega arith) (v .left .memory) 3 (omega arith)
+      (λ e. omega arith) (b .events) (w .state .events) (h .events)))
       (v .left .agrees))
     where
       same : (x : Says A) → withRequests b (noted l next x) ≡ noted b (λ a. withRequests b (next a)) x
@@ -209,4 +207,5 @@ module _ (began : List ℕ) (b : Book) (w : World) (fit : isUnfit w ≡ false)
         let o = event-open w place (row-passes 20 eventRows fit ∙ event-told ∙ e) in
         ap (λ (x : EventHeader). record { says = answers x; output = [] })
         (headed-alone mem (eventArea g) place (o .element) (entryAt place (b .events .held) .words)
-        (words-told (eventArea g) (b .events) (w .state .events) mem (h .events) place (o .holds .holds)) eventHeaderIn))
+        (words-told (eventArea g) (b .events) (w .state .events) mem (h .events) place (o .holds .holds))
+        eventHeaderIn))

@@ -2,25 +2,22 @@
 -- Assumes nothing.
 use Prim.Native.Nat.{ℕ}
 use mathlib.Core.Path.{_≡_, refl, sym, ap, _∙_, subst}
-use mathlib.Core.Bool.{Bool, true, false, true≢false}
+use mathlib.Core.Bool.{false, true≢false}
 use mathlib.Core.List.{List, [], _∷_}
 use lib.ListN.{length}
-use Rattle.words.specs.Rules.{Ruling, allowed, first, isAllowed}
+use Rattle.words.specs.Rules.{allowed, first, isAllowed}
 use Rattle.registers.specs.declared.Registers.{Registers}
 use Rattle.layout.specs.Sections.{memoryWords}
 use Rattle.layout.specs.Verdict.{verdict, rules}
 use Rattle.shape.specs.Calls.{leaves, effected}
 use Rattle.shape.specs.Histories.{told}
-use Rattle.shape.specs.Refusals.{Refusal}
 use Rattle.shape.proofs.Calls.{call-cases}
 use Rattle.engine.specs.Calls.{World, withRecorded, Outcome, isUnfit}
 use Rattle.engine.specs.Flags.{cleared}
 use Rattle.starting.specs.Starting
 use Rattle.starting.specs.Starting.{unreported, starts}
 use Rattle.starting.proofs.Fits.{start-ruled}
-use Rattle.taking.specs.Reading
 use Rattle.taking.specs.Reading.{reads}
-use Rattle.choosing.specs.Choosing
 use Rattle.choosing.specs.Choosing.{chooses}
 use Rattle.overview.specs.Overview.{overviewRefusals}
 use Rattle.requests.proofs.Choosing.{choice-told}
@@ -71,7 +68,8 @@ module _ (began : List ℕ) (b : Book) (w : World) (fit : isUnfit w ≡ false)
   told-here reportStatus = status-told began b w fit h
 
   abbrev Kept : (c : Call) → Outcome (Answer c) → Type 0
-  Kept c o = BookAgrees (w .state .regs) began (note (w .state .regs) b c (o .says)) (o .world .state) (o .world .memory)
+  Kept c o =
+      BookAgrees (w .state .regs) began (note (w .state .regs) b c (o .says)) (o .world .state) (o .world .memory)
 
   -- a start that is refused changes nothing
   start-kept : (g : Registers) → isAllowed (verdict memoryWords g (length began)) ≡ false

@@ -1,5 +1,4 @@
--- The history's own book of an engine. It is kept from the calls and their answers, with the registers of the start, and
--- never looks at a world.
+-- The history's own book of an engine: kept from calls and answers, with the registers of the start, not from a world.
 use Prim.Native.Nat.{ℕ}
 use mathlib.Core.Bool.{Bool, false}
 use mathlib.Core.List.{List, [], _∷_}

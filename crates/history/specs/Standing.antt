@@ -24,8 +24,8 @@ pub record BuffersAgree (g : Registers) (newdata : ℕ) (buffered : List InRxBuf
 pub record BookAgrees (g : Registers) (began : List ℕ) (b : Book) (s : State) (mem : List ℕ) : Type 0 where
   -- the registers are those of the start
   pub regs : s .regs ≡ g
-  -- every frame sent to a FIFO is exactly once released, held or lost, in order; those held stand in the memory word for
-  -- word
+  -- every frame sent to a FIFO is exactly once released, held or lost, in order; those held stand in the memory word
+  -- for word
   pub fifos : (fifo : ℕ) → fifo ≤ 1 → RingAgrees (fifoArea g fifo) (fifoLedger b fifo) (fifoRing s fifo) mem
   -- and every event due
   pub events : RingAgrees (eventArea g) (b .events) (s .events) mem
