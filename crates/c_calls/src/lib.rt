@@ -3,21 +3,24 @@ use c_entering::engine_calls;
 use c_receiving::reads;
 use c_receiving::receives;
 use c_receiving::releases;
-use c_sending::cancels;
-use c_sending::event_calls;
-use c_sending::requests;
+use c_requesting::cancels;
+use c_requesting::event_calls;
+use c_requesting::requests;
 ghost use mathlib.Core.Path.{_≡_};
 ghost use mathlib.Core.List.{[]};
-ghost use Rattle.c_entering.specs.Crossing.{outcome, lent};
+ghost use Rattle.c_entering.specs.Entering.{returned, lent};
 ghost use Rattle.c_entering.specs.EngineCalls.{neverStartedCall, startCall, clearCall, statusCall};
-ghost use Rattle.c_receiving.specs.ReceivingCalls.{receiveCall, readFifoCall, acknowledgeFifoCall, readBufferCall, releaseBufferCall};
-ghost use Rattle.c_sending.specs.SendingCalls.{requestDedicatedCall, requestSharedCall, cancelCall, readEventCall, acknowledgeEventCall};
+ghost use Rattle.c_receiving.specs.ReceivingCalls.{receiveCall, readFifoCall, acknowledgeFifoCall};
+ghost use Rattle.c_receiving.specs.ReceivingCalls.{readBufferCall, releaseBufferCall};
+ghost use Rattle.c_requesting.specs.RequestingCalls.{requestDedicatedCall, requestSharedCall, cancelCall};
+ghost use Rattle.c_requesting.specs.EventCalls.{readEventCall, acknowledgeEventCall};
 ghost use Rattle.c_choosing.specs.ChoosingCalls.{askChoiceCall, reportSentCall};
 
 // A state for which every call but a start answers 20.
 #[no_mangle]
 pub extern "C" fn cuongphemi_never_started(state: &mut [u32]) -> u32
-    ensures { λ n. ⌜ outcome n (lent (now (state .exit)) [] [] [] []) ≡ neverStartedCall (lent (now (state .entry)) [] [] [] []) ⌝ }
+    ensures { λ n. ⌜ returned n (lent (now (state .exit)) [] [] [] [])
+        ≡ neverStartedCall (lent (now (state .entry)) [] [] [] []) ⌝ }
 {
     engine_calls::never_started(state)
 }
@@ -26,95 +29,112 @@ pub extern "C" fn cuongphemi_never_started(state: &mut [u32]) -> u32
 #[no_mangle]
 pub extern "C" fn cuongphemi_start(
     state: &mut [u32],
-    status: &mut [u32],
+    recorded: &mut [u32],
     mem: &[u32],
     registers: &[u32],
     answer: &mut [u32],
 ) -> u32
-    ensures { λ n. ⌜ outcome n (lent (now (state .exit)) (now (status .exit)) (now (mem .entry)) (now (answer .exit)) []) ≡ startCall (lent (now (state .entry)) (now (status .entry)) (now (mem .entry)) (now (answer .entry)) []) (now (registers .entry)) ⌝ }
+    ensures { λ n. ⌜ returned n
+        (lent (now (state .exit)) (now (recorded .exit)) (now (mem .entry)) (now (answer .exit)) [])
+        ≡ startCall (lent (now (state .entry)) (now (recorded .entry)) (now (mem .entry)) (now (answer .entry)) [])
+        (now (registers .entry)) ⌝ }
 {
-    engine_calls::start(state, status, mem, registers, answer)
+    engine_calls::start(state, recorded, mem, registers, answer)
 }
 
 // Call 2, receive.
 #[no_mangle]
 pub extern "C" fn cuongphemi_receive(
     state: &mut [u32],
-    status: &mut [u32],
+    recorded: &mut [u32],
     mem: &mut [u32],
     frame: &[u32],
     bytes: &[u8],
     time: u16,
     answer: &mut [u32],
 ) -> u32
-    ensures { λ n. ⌜ outcome n (lent (now (state .exit)) (now (status .exit)) (now (mem .exit)) (now (answer .exit)) []) ≡ receiveCall (lent (now (state .entry)) (now (status .entry)) (now (mem .entry)) (now (answer .entry)) []) (now (frame .entry)) (now (bytes .entry)) time ⌝ }
+    ensures { λ n. ⌜ returned n
+        (lent (now (state .exit)) (now (recorded .exit)) (now (mem .exit)) (now (answer .exit)) [])
+        ≡ receiveCall (lent (now (state .entry)) (now (recorded .entry)) (now (mem .entry)) (now (answer .entry)) [])
+        (now (frame .entry)) (now (bytes .entry)) time ⌝ }
 {
-    receives::receive(state, status, mem, frame, bytes, time, answer)
+    receives::receive(state, recorded, mem, frame, bytes, time, answer)
 }
 
 // Call 3, read in a FIFO.
 #[no_mangle]
 pub extern "C" fn cuongphemi_read_fifo(
     state: &[u32],
-    status: &[u32],
+    recorded: &[u32],
     mem: &[u32],
     fifo: u32,
     place: u32,
     out: &mut [u8],
     answer: &mut [u32],
 ) -> u32
-    ensures { λ n. ⌜ outcome n (lent (now (state .entry)) (now (status .entry)) (now (mem .entry)) (now (answer .exit)) (now (out .exit))) ≡ readFifoCall (lent (now (state .entry)) (now (status .entry)) (now (mem .entry)) (now (answer .entry)) (now (out .entry))) fifo place ⌝ }
+    ensures { λ n. ⌜ returned n
+        (lent (now (state .entry)) (now (recorded .entry)) (now (mem .entry)) (now (answer .exit)) (now (out .exit)))
+        ≡ readFifoCall
+        (lent (now (state .entry)) (now (recorded .entry)) (now (mem .entry)) (now (answer .entry)) (now (out .entry)))
+        fifo place ⌝ }
 {
-    reads::read_fifo(state, status, mem, fifo, place, out, answer)
+    reads::read_fifo(state, recorded, mem, fifo, place, out, answer)
 }
 
 // Call 4, acknowledge in a FIFO.
 #[no_mangle]
 pub extern "C" fn cuongphemi_acknowledge_fifo(
     state: &mut [u32],
-    status: &[u32],
+    recorded: &[u32],
     mem: &[u32],
     fifo: u32,
     place: u32,
 ) -> u32
-    ensures { λ n. ⌜ outcome n (lent (now (state .exit)) (now (status .entry)) (now (mem .entry)) [] []) ≡ acknowledgeFifoCall (lent (now (state .entry)) (now (status .entry)) (now (mem .entry)) [] []) fifo place ⌝ }
+    ensures { λ n. ⌜ returned n (lent (now (state .exit)) (now (recorded .entry)) (now (mem .entry)) [] [])
+        ≡ acknowledgeFifoCall (lent (now (state .entry)) (now (recorded .entry)) (now (mem .entry)) [] [])
+        fifo place ⌝ }
 {
-    releases::acknowledge_fifo(state, status, mem, fifo, place)
+    releases::acknowledge_fifo(state, recorded, mem, fifo, place)
 }
 
 // Call 5, read an Rx buffer.
 #[no_mangle]
 pub extern "C" fn cuongphemi_read_buffer(
     state: &[u32],
-    status: &[u32],
+    recorded: &[u32],
     mem: &[u32],
     buffer: u32,
     out: &mut [u8],
     answer: &mut [u32],
 ) -> u32
-    ensures { λ n. ⌜ outcome n (lent (now (state .entry)) (now (status .entry)) (now (mem .entry)) (now (answer .exit)) (now (out .exit))) ≡ readBufferCall (lent (now (state .entry)) (now (status .entry)) (now (mem .entry)) (now (answer .entry)) (now (out .entry))) buffer ⌝ }
+    ensures { λ n. ⌜ returned n
+        (lent (now (state .entry)) (now (recorded .entry)) (now (mem .entry)) (now (answer .exit)) (now (out .exit)))
+        ≡ readBufferCall
+        (lent (now (state .entry)) (now (recorded .entry)) (now (mem .entry)) (now (answer .entry)) (now (out .entry)))
+        buffer ⌝ }
 {
-    reads::read_buffer(state, status, mem, buffer, out, answer)
+    reads::read_buffer(state, recorded, mem, buffer, out, answer)
 }
 
 // Call 6, release an Rx buffer.
 #[no_mangle]
 pub extern "C" fn cuongphemi_release_buffer(
     state: &mut [u32],
-    status: &[u32],
+    recorded: &[u32],
     mem: &[u32],
     buffer: u32,
 ) -> u32
-    ensures { λ n. ⌜ outcome n (lent (now (state .exit)) (now (status .entry)) (now (mem .entry)) [] []) ≡ releaseBufferCall (lent (now (state .entry)) (now (status .entry)) (now (mem .entry)) [] []) buffer ⌝ }
+    ensures { λ n. ⌜ returned n (lent (now (state .exit)) (now (recorded .entry)) (now (mem .entry)) [] [])
+        ≡ releaseBufferCall (lent (now (state .entry)) (now (recorded .entry)) (now (mem .entry)) [] []) buffer ⌝ }
 {
-    releases::release_buffer(state, status, mem, buffer)
+    releases::release_buffer(state, recorded, mem, buffer)
 }
 
 // Call 7, request a dedicated buffer.
 #[no_mangle]
 pub extern "C" fn cuongphemi_request_dedicated(
     state: &mut [u32],
-    status: &[u32],
+    recorded: &[u32],
     mem: &mut [u32],
     buffer: u32,
     frame: &[u32],
@@ -123,11 +143,15 @@ pub extern "C" fn cuongphemi_request_dedicated(
     wish: u32,
     answer: &mut [u32],
 ) -> u32
-    ensures { λ n. ⌜ outcome n (lent (now (state .exit)) (now (status .entry)) (now (mem .exit)) (now (answer .exit)) []) ≡ requestDedicatedCall (lent (now (state .entry)) (now (status .entry)) (now (mem .entry)) (now (answer .entry)) []) buffer (now (frame .entry)) (now (bytes .entry)) marker wish ⌝ }
+    ensures { λ n. ⌜ returned n
+        (lent (now (state .exit)) (now (recorded .entry)) (now (mem .exit)) (now (answer .exit)) [])
+        ≡ requestDedicatedCall
+        (lent (now (state .entry)) (now (recorded .entry)) (now (mem .entry)) (now (answer .entry)) [])
+        buffer (now (frame .entry)) (now (bytes .entry)) marker wish ⌝ }
 {
     requests::request_dedicated(
         state,
-        status,
+        recorded,
         mem,
         buffer,
         frame,
@@ -142,7 +166,7 @@ pub extern "C" fn cuongphemi_request_dedicated(
 #[no_mangle]
 pub extern "C" fn cuongphemi_request_shared(
     state: &mut [u32],
-    status: &[u32],
+    recorded: &[u32],
     mem: &mut [u32],
     frame: &[u32],
     bytes: &[u8],
@@ -150,103 +174,121 @@ pub extern "C" fn cuongphemi_request_shared(
     wish: u32,
     answer: &mut [u32],
 ) -> u32
-    ensures { λ n. ⌜ outcome n (lent (now (state .exit)) (now (status .entry)) (now (mem .exit)) (now (answer .exit)) []) ≡ requestSharedCall (lent (now (state .entry)) (now (status .entry)) (now (mem .entry)) (now (answer .entry)) []) (now (frame .entry)) (now (bytes .entry)) marker wish ⌝ }
+    ensures { λ n. ⌜ returned n
+        (lent (now (state .exit)) (now (recorded .entry)) (now (mem .exit)) (now (answer .exit)) [])
+        ≡ requestSharedCall
+        (lent (now (state .entry)) (now (recorded .entry)) (now (mem .entry)) (now (answer .entry)) [])
+        (now (frame .entry)) (now (bytes .entry)) marker wish ⌝ }
 {
-    requests::request_shared(state, status, mem, frame, bytes, marker, wish, answer)
+    requests::request_shared(state, recorded, mem, frame, bytes, marker, wish, answer)
 }
 
 // Call 9, cancel.
 #[no_mangle]
 pub extern "C" fn cuongphemi_cancel(
     state: &mut [u32],
-    status: &mut [u32],
+    recorded: &mut [u32],
     mem: &[u32],
     buffer: u32,
 ) -> u32
-    ensures { λ n. ⌜ outcome n (lent (now (state .exit)) (now (status .exit)) (now (mem .entry)) [] []) ≡ cancelCall (lent (now (state .entry)) (now (status .entry)) (now (mem .entry)) [] []) buffer ⌝ }
+    ensures { λ n. ⌜ returned n (lent (now (state .exit)) (now (recorded .exit)) (now (mem .entry)) [] [])
+        ≡ cancelCall (lent (now (state .entry)) (now (recorded .entry)) (now (mem .entry)) [] []) buffer ⌝ }
 {
-    cancels::cancel(state, status, mem, buffer)
+    cancels::cancel(state, recorded, mem, buffer)
 }
 
 // Call 10, ask the choice.
 #[no_mangle]
 pub extern "C" fn cuongphemi_ask_choice(
     state: &[u32],
-    status: &[u32],
+    recorded: &[u32],
     mem: &[u32],
     passive: u32,
     out: &mut [u8],
     answer: &mut [u32],
 ) -> u32
-    ensures { λ n. ⌜ outcome n (lent (now (state .entry)) (now (status .entry)) (now (mem .entry)) (now (answer .exit)) (now (out .exit))) ≡ askChoiceCall (lent (now (state .entry)) (now (status .entry)) (now (mem .entry)) (now (answer .entry)) (now (out .entry))) passive ⌝ }
+    ensures { λ n. ⌜ returned n
+        (lent (now (state .entry)) (now (recorded .entry)) (now (mem .entry)) (now (answer .exit)) (now (out .exit)))
+        ≡ askChoiceCall
+        (lent (now (state .entry)) (now (recorded .entry)) (now (mem .entry)) (now (answer .entry)) (now (out .entry)))
+        passive ⌝ }
 {
-    c_choosing::ask_choice(state, status, mem, passive, out, answer)
+    c_choosing::ask_choice(state, recorded, mem, passive, out, answer)
 }
 
 // Call 11, report sent.
 #[no_mangle]
 pub extern "C" fn cuongphemi_report_sent(
     state: &mut [u32],
-    status: &mut [u32],
+    recorded: &mut [u32],
     mem: &mut [u32],
     buffer: u32,
     passive: u32,
     time: u16,
 ) -> u32
-    ensures { λ n. ⌜ outcome n (lent (now (state .exit)) (now (status .exit)) (now (mem .exit)) [] []) ≡ reportSentCall (lent (now (state .entry)) (now (status .entry)) (now (mem .entry)) [] []) buffer passive time ⌝ }
+    ensures { λ n. ⌜ returned n (lent (now (state .exit)) (now (recorded .exit)) (now (mem .exit)) [] [])
+        ≡ reportSentCall (lent (now (state .entry)) (now (recorded .entry)) (now (mem .entry)) [] [])
+        buffer passive time ⌝ }
 {
-    c_choosing::report_sent(state, status, mem, buffer, passive, time)
+    c_choosing::report_sent(state, recorded, mem, buffer, passive, time)
 }
 
 // Call 12, read an event.
 #[no_mangle]
 pub extern "C" fn cuongphemi_read_event(
     state: &[u32],
-    status: &[u32],
+    recorded: &[u32],
     mem: &[u32],
     place: u32,
     answer: &mut [u32],
 ) -> u32
-    ensures { λ n. ⌜ outcome n (lent (now (state .entry)) (now (status .entry)) (now (mem .entry)) (now (answer .exit)) []) ≡ readEventCall (lent (now (state .entry)) (now (status .entry)) (now (mem .entry)) (now (answer .entry)) []) place ⌝ }
+    ensures { λ n. ⌜ returned n
+        (lent (now (state .entry)) (now (recorded .entry)) (now (mem .entry)) (now (answer .exit)) [])
+        ≡ readEventCall (lent (now (state .entry)) (now (recorded .entry)) (now (mem .entry)) (now (answer .entry)) [])
+        place ⌝ }
 {
-    event_calls::read_event(state, status, mem, place, answer)
+    event_calls::read_event(state, recorded, mem, place, answer)
 }
 
 // Call 13, acknowledge an event.
 #[no_mangle]
 pub extern "C" fn cuongphemi_acknowledge_event(
     state: &mut [u32],
-    status: &[u32],
+    recorded: &[u32],
     mem: &[u32],
     place: u32,
 ) -> u32
-    ensures { λ n. ⌜ outcome n (lent (now (state .exit)) (now (status .entry)) (now (mem .entry)) [] []) ≡ acknowledgeEventCall (lent (now (state .entry)) (now (status .entry)) (now (mem .entry)) [] []) place ⌝ }
+    ensures { λ n. ⌜ returned n (lent (now (state .exit)) (now (recorded .entry)) (now (mem .entry)) [] [])
+        ≡ acknowledgeEventCall (lent (now (state .entry)) (now (recorded .entry)) (now (mem .entry)) [] []) place ⌝ }
 {
-    event_calls::acknowledge_event(state, status, mem, place)
+    event_calls::acknowledge_event(state, recorded, mem, place)
 }
 
 // Call 14, clear flags.
 #[no_mangle]
 pub extern "C" fn cuongphemi_clear_flags(
     state: &[u32],
-    status: &mut [u32],
+    recorded: &mut [u32],
     mem: &[u32],
     mask: u32,
 ) -> u32
-    ensures { λ n. ⌜ outcome n (lent (now (state .entry)) (now (status .exit)) (now (mem .entry)) [] []) ≡ clearCall (lent (now (state .entry)) (now (status .entry)) (now (mem .entry)) [] []) mask ⌝ }
+    ensures { λ n. ⌜ returned n (lent (now (state .entry)) (now (recorded .exit)) (now (mem .entry)) [] [])
+        ≡ clearCall (lent (now (state .entry)) (now (recorded .entry)) (now (mem .entry)) [] []) mask ⌝ }
 {
-    engine_calls::clear_flags(state, status, mem, mask)
+    engine_calls::clear_flags(state, recorded, mem, mask)
 }
 
-// Call 15, status.
+// Call 15, recorded.
 #[no_mangle]
 pub extern "C" fn cuongphemi_status(
     state: &[u32],
-    status: &[u32],
+    recorded: &[u32],
     mem: &[u32],
     answer: &mut [u32],
 ) -> u32
-    ensures { λ n. ⌜ outcome n (lent (now (state .entry)) (now (status .entry)) (now (mem .entry)) (now (answer .exit)) []) ≡ statusCall (lent (now (state .entry)) (now (status .entry)) (now (mem .entry)) (now (answer .entry)) []) ⌝ }
+    ensures { λ n. ⌜ returned n
+        (lent (now (state .entry)) (now (recorded .entry)) (now (mem .entry)) (now (answer .exit)) [])
+        ≡ statusCall (lent (now (state .entry)) (now (recorded .entry)) (now (mem .entry)) (now (answer .entry)) []) ⌝ }
 {
-    engine_calls::status(state, status, mem, answer)
+    engine_calls::status(state, recorded, mem, answer)
 }

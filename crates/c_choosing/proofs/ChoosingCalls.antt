@@ -1,39 +1,59 @@
--- Calls 10 and 11 from C, case by case.
+-- Calls 10 and 11 from C.
 -- Assumes nothing.
 use Prim.Native.Nat.{ℕ}
-use mathlib.Core.Path.{_≡_, refl, ap, _∙_}
-use mathlib.Core.Bool.{true}
-use mathlib.Core.List.{List}
+use mathlib.Core.Path.{_≡_, ap₂, _∙_}
+use mathlib.Core.Bool.{Bool, true}
+use mathlib.Core.List.{List, []}
+use Rattle.shape.specs.Calls.{outcome, settles}
+use Rattle.shape.proofs.Calls.{calls-are-shaped}
 use Rattle.engine.specs.Answers.{replied}
+use Rattle.engine.specs.Calls.{World, world, Outcome}
+use Rattle.engine.specs.declared.refusals.Reply.{Reply}
 use Rattle.engine.specs.declared.state.State.{State}
 use Rattle.engine.specs.declared.state.Record.{Record}
-use Rattle.choosing.specs.Choosing.{ChoiceOutcome, choiceOutcome, choiceRule, meaning as choiceSays}
-use Rattle.reporting.specs.Reporting.{ReportOutcome, reportOutcome, reportRule}
+use Rattle.choosing.specs.Choosing.{meaning as choiceSays, askChoice}
 use Rattle.choosing.specs.declared.asking.ChoiceAnswer.{ChoiceAnswer}
-use Rattle.reporting.specs.declared.report.AfterReport.{AfterReport}
+use Rattle.reporting.specs.Reporting.{reportSent}
 use Rattle.c_words.specs.Words.{saysYes, isYesNo}
-use Rattle.c_words.specs.States.{unpackState, unpackRecord, packState, packRecord}
-use Rattle.c_answers.specs.Telling.{resultOf, toldIn, choiceWords}
-use Rattle.c_entering.specs.Crossing.{lent, outcome, has, entryNumber}
-use Rattle.c_entering.proofs.Entries.{alike, crossed}
+use Rattle.c_words.specs.States.{unpackState, packState, ComesBack, unpackRecord, packRecord}
+use Rattle.c_answers.specs.Answers.{resultOf, toldIn, choiceWords}
+use Rattle.c_entering.specs.Entering.{lent, returned, has, entryNumber}
+use Rattle.c_entering.proofs.Entries.{open-recorded}
+use Rattle.c_entering.proofs.Crossed.{untold, same-state, same-recorded, told-of, told-in-words}
 use Rattle.c_choosing.specs.ChoosingCalls.{askChoiceCall, reportSentCall}
 
-module _ (state status mem answer out : List ℕ) (n : ℕ) (f : n ≡ 0) where
-  -- call 10
-  pub choice-told : (passive : ℕ) (a : ChoiceAnswer) (s : State) (r : Record) (k : ℕ) (m after : List ℕ) → n ≡ entryNumber state status (has answer 16) (isYesNo passive)
-      → s ≡ unpackState state → r ≡ unpackRecord status → choiceOutcome a after ≡ choiceRule s r mem (saysYes passive) out → k ≡ resultOf (choiceSays a) → m ≡ toldIn choiceWords answer (choiceSays a)
-      → outcome k (lent state status mem m after) ≡ askChoiceCall (lent state status mem answer out) passive
-  unfolding askChoiceCall
-  choice-told passive a s r k m after d x y h w z =
-      let same : choiceOutcome a after ≡ choiceRule (unpackState state) (unpackRecord status) mem (saysYes passive) out = cc in
-      alike (w ∙ ap (λ (o : ChoiceOutcome). resultOf (o .says)) same) refl refl refl (z ∙ ap (λ (o : ChoiceOutcome). toldIn choiceWords answer (o .says)) same) (ap (λ (o : ChoiceOutcome). o .output) same)
-      ∙ crossed (lent state status mem answer out) (has answer 16) (isYesNo passive) _ n d f
+-- call 10 leaves the state and the record
+pub choice-told : (state recorded mem answer out : List ℕ) (n : ℕ) → n ≡ 0 → (s : State) (r : Record)
+    → s ≡ unpackState state → ComesBack state → r ≡ unpackRecord recorded
+    → (passive : ℕ) (a : ChoiceAnswer) (k : ℕ) (m after : List ℕ)
+    → n ≡ entryNumber state recorded (has answer 16) (isYesNo passive)
+    → outcome (choiceSays a) (world s r mem) after ≡ askChoice (world s r mem) (saysYes passive) out
+    → k ≡ resultOf (choiceSays a) → m ≡ toldIn choiceWords answer (choiceSays a)
+    → returned k (lent state recorded mem m after) ≡ askChoiceCall (lent state recorded mem answer out) passive
+unfolding askChoiceCall
+choice-told state recorded mem answer out n f s r x back y passive a k m after d h p z =
+    let two = open-recorded state recorded (has answer 16) (isYesNo passive) n d f in
+    told-of state recorded mem answer out (has answer 16) (isYesNo passive) n d f k state recorded m s r
+    (same-state state s back x) (same-recorded recorded r two y) s r x back y
+    choiceWords (λ (w : World). askChoice w (saysYes passive) out) (calls-are-shaped _ _ _ _ _ _ .stays)
+    (choiceSays a) mem after h p z
 
-  -- call 11
-  pub report-left : (buffer passive time : ℕ) (a : AfterReport) (k : ℕ) (st re me : List ℕ) → n ≡ entryNumber state status true (isYesNo passive)
-      → reportOutcome a me ≡ reportRule (unpackState state) (unpackRecord status) mem buffer (saysYes passive) time → st ≡ packState (a .state) → re ≡ packRecord (a .status) → k ≡ resultOf (replied (a .reply))
-      → outcome k (lent st re me answer out) ≡ reportSentCall (lent state status mem answer out) buffer passive time
+-- call 11, of what stands in words
+module _ (state recorded mem : List ℕ) (buffer : ℕ) where
+  pub report-taken : (passive : Bool) (time : ℕ) (s : State) (r : Record) (o : Outcome (Unit {0}))
+      → o ≡ reportSent (world s r mem) buffer passive time → s ≡ unpackState state → r ≡ unpackRecord recorded
+      → o ≡ reportSent (world (unpackState state) (unpackRecord recorded) mem) buffer passive time
+  report-taken passive time s r o h x y =
+      h ∙ ap₂ (λ (u : State) (v : Record). reportSent (world u v mem) buffer passive time) x y
+
+  -- it has nothing to tell
+  pub report-told : (passive time : ℕ) (answer : List ℕ) (n : ℕ) → n ≡ entryNumber state recorded true (isYesNo passive)
+      → n ≡ 0 → ComesBack state → (a : Reply) (t : State) (q : Record) (k : ℕ) (st re me : List ℕ)
+      → settles (replied a) (world t q me)
+      ≡ reportSent (world (unpackState state) (unpackRecord recorded) mem) buffer (saysYes passive) time
+      → k ≡ resultOf (replied a) → st ≡ packState t → re ≡ packRecord q
+      → returned k (lent st re me answer []) ≡ reportSentCall (lent state recorded mem answer []) buffer passive time
   unfolding reportSentCall
-  report-left buffer passive time a k st re me d h b c w =
-      alike (w ∙ ap (λ (o : ReportOutcome). resultOf (o .says)) h) (b ∙ ap (λ (o : ReportOutcome). packState (o .state)) h) (c ∙ ap (λ (o : ReportOutcome). packRecord (o .status)) h) (ap (λ (o : ReportOutcome). o .memory) h) refl refl
-      ∙ crossed (lent state status mem answer out) true (isYesNo passive) _ n d f
+  report-told passive time answer n d f back a t q k st re me h p e g =
+      told-in-words state recorded mem answer [] true (isYesNo passive) n d f k st re answer t q e g back
+      _ _ _ (replied a) me [] h p (untold answer (replied a))

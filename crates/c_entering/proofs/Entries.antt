@@ -91,6 +91,9 @@ module _ (state recorded : List ℕ) (lengths words : Bool) (n : ℕ) (d : n ≡
     plain = and-both (plainRegisters state) words (not-false (plainRegisters state && words) (no-rule .1)) .0;
   }
 
+  pub open-size : length state ≡ 27
+  open-size = open-state .size
+
   pub open-recorded : length recorded ≡ 2
   open-recorded = eqb-true (length recorded) 2 (all-sized .1)
 

@@ -1,74 +1,98 @@
--- Calls 2 to 6 from C, case by case.
+-- Calls 2 to 6 from C.
 -- Assumes nothing.
 use Prim.Native.Nat.{ℕ}
-use mathlib.Core.Path.{_≡_, refl, ap, _∙_}
-use mathlib.Core.Bool.{true, _&&_}
-use mathlib.Core.List.{List}
-use lib.ListN.{length}
+use mathlib.Core.Path.{_≡_, ap, ap₂, _∙_}
+use mathlib.Core.Bool.{true}
+use mathlib.Core.List.{List, []}
+use Rattle.shape.specs.Calls.{outcome, settles}
+use Rattle.shape.proofs.Calls.{calls-are-shaped}
+use Rattle.frame.specs.declared.Frame.{Frame}
+use Rattle.element.specs.declared.RxRead.{RxRead}
 use Rattle.engine.specs.Answers.{replied}
+use Rattle.engine.specs.Calls.{World, world, Outcome}
+use Rattle.engine.specs.declared.refusals.Reply.{Reply}
 use Rattle.engine.specs.declared.state.State.{State}
 use Rattle.engine.specs.declared.state.Record.{Record}
-use Rattle.receiving.specs.Receive.{ReceiveOutcome, receiveOutcome, receiveRule, meaning as receiveSays}
-use Rattle.taking.specs.Reading.{ReadOutcome, readOutcome, readFifoRule, readBufferRule, meaning as readSays}
-use Rattle.taking.specs.Releasing.{ReleaseOutcome, releaseOutcome, acknowledgeRule, releaseRule}
-use Rattle.receiving.specs.declared.receive.AfterReceive.{AfterReceive}
+use Rattle.receiving.specs.Receive.{Fate, receive}
+use Rattle.taking.specs.Reading.{meaning as readSays, readFifo, readBuffer}
+use Rattle.taking.specs.Releasing.{acknowledgeFifo, releaseBuffer}
 use Rattle.taking.specs.declared.reading.ReadAnswer.{ReadAnswer}
-use Rattle.taking.specs.declared.releasing.AfterRelease.{AfterRelease}
-use Rattle.c_words.specs.Frames.{plainFrame, unpackFrame}
-use Rattle.c_words.specs.States.{unpackState, unpackRecord, packState, packRecord}
-use Rattle.c_answers.specs.Telling.{resultOf, toldIn, fateWords, readWords}
-use Rattle.c_entering.specs.Crossing.{lent, outcome, has, entryNumber, crossing}
-use Rattle.c_entering.proofs.Entries.{alike, crossed}
-use Rattle.c_receiving.specs.ReceivingCalls.{read, released, receiveCall, readFifoCall, acknowledgeFifoCall, readBufferCall, releaseBufferCall}
+use Rattle.c_words.specs.Frames.{unpackFrame}
+use Rattle.c_words.specs.States.{unpackState, packState, ComesBack, unpackRecord}
+use Rattle.c_answers.specs.Answers.{resultOf, toldIn, noWords, readWords}
+use Rattle.c_entering.specs.Entering.{Lent, lent, returned, has, entryNumber, crossing, worldOf, inWords}
+use Rattle.c_entering.proofs.Entries.{open-recorded}
+use Rattle.c_entering.proofs.Crossed.{Stays, untold, same-state, same-recorded, told-of}
+use Rattle.c_receiving.specs.ReceivingCalls.{readFifoCall, acknowledgeFifoCall, readBufferCall, releaseBufferCall}
 
-module _ (state status mem answer out : List ℕ) (n : ℕ) (f : n ≡ 0) where
-  -- call 2
-  pub received-told : (frame bytes : List ℕ) (time : ℕ) (a : AfterReceive) (k : ℕ) (st re me m : List ℕ) → n ≡ entryNumber state status (has frame 7 && has answer 16) (plainFrame frame)
-      → receiveOutcome a me ≡ receiveRule (unpackState state) (unpackRecord status) mem (unpackFrame frame) bytes time → st ≡ packState (a .state) → re ≡ packRecord (a .status)
-      → k ≡ resultOf (receiveSays (a .answer)) → m ≡ toldIn fateWords answer (receiveSays (a .answer))
-      → outcome k (lent st re me m out) ≡ receiveCall (lent state status mem answer out) frame bytes time
-  unfolding receiveCall
-  received-told frame bytes time a k st re me m d h b c w z =
-      alike (w ∙ ap (λ (o : ReceiveOutcome). resultOf (o .says)) h) (b ∙ ap (λ (o : ReceiveOutcome). packState (o .state)) h) (c ∙ ap (λ (o : ReceiveOutcome). packRecord (o .status)) h)
-      (ap (λ (o : ReceiveOutcome). o .memory) h) (z ∙ ap (λ (o : ReceiveOutcome). toldIn fateWords answer (o .says)) h) refl
-      ∙ crossed (lent state status mem answer out) (has frame 7 && has answer 16) (plainFrame frame) _ n d f
+-- ---- call 2, of what stands in words
 
-  -- calls 3 and 5
-  module _ (a : ReadAnswer) (k : ℕ) (m after : List ℕ) (d : n ≡ entryNumber state status (has answer 16) true) (w : k ≡ resultOf (readSays a)) (z : m ≡ toldIn readWords answer (readSays a)) where
-    read-through : (o : ReadOutcome) → readOutcome a after ≡ o
-        → outcome k (lent state status mem m after) ≡ crossing (lent state status mem answer out) (has answer 16) true (read (lent state status mem answer out) o)
-    unfolding read
-    read-through o h =
-        alike (w ∙ ap (λ (o : ReadOutcome). resultOf (o .says)) h) refl refl refl (z ∙ ap (λ (o : ReadOutcome). toldIn readWords answer (o .says)) h) (ap (λ (o : ReadOutcome). o .output) h)
-        ∙ crossed (lent state status mem answer out) (has answer 16) true _ n d f
+pub receive-taken : (state recorded frame mem : List ℕ) (s : State) (r : Record) (f : Frame) (bytes : List ℕ) (time : ℕ)
+    (o : Outcome Fate) → o ≡ receive (world s r mem) f bytes time → s ≡ unpackState state → r ≡ unpackRecord recorded
+    → f ≡ unpackFrame frame
+    → o ≡ receive (world (unpackState state) (unpackRecord recorded) mem) (unpackFrame frame) bytes time
+receive-taken state recorded frame mem s r f bytes time o h x y z =
+    h ∙ ap (λ (g : Frame). receive (world s r mem) g bytes time) z
+    ∙ ap₂ (λ (u : State) (v : Record). receive (world u v mem) (unpackFrame frame) bytes time) x y
 
-    module _ (s : State) (r : Record) (x : s ≡ unpackState state) (y : r ≡ unpackRecord status) where
-      pub fifo-read : (fifo place : ℕ) → readOutcome a after ≡ readFifoRule s r mem fifo place out
-          → outcome k (lent state status mem m after) ≡ readFifoCall (lent state status mem answer out) fifo place
-      unfolding readFifoCall
-      fifo-read fifo place h = read-through (readFifoRule (unpackState state) (unpackRecord status) mem fifo place out) (cc)
+module _ (state recorded mem answer : List ℕ) (n : ℕ) (f : n ≡ 0) (s : State) (r : Record) (x : s ≡ unpackState state)
+    (back : ComesBack state) (y : r ≡ unpackRecord recorded) where
+  -- ---- calls 3 and 5 leave the state and the record
 
-      pub buffer-read : (buffer : ℕ) → readOutcome a after ≡ readBufferRule s r mem buffer out
-          → outcome k (lent state status mem m after) ≡ readBufferCall (lent state status mem answer out) buffer
-      unfolding readBufferCall
-      buffer-read buffer h = read-through (readBufferRule (unpackState state) (unpackRecord status) mem buffer out) (cc)
+  module _ (out : List ℕ) (a : ReadAnswer) (k : ℕ) (m after : List ℕ)
+      (d : n ≡ entryNumber state recorded (has answer 16) true) (p : k ≡ resultOf (readSays a))
+      (z : m ≡ toldIn readWords answer (readSays a)) where
+    abbrev L : Lent
+    L = lent state recorded mem answer out
 
-  -- calls 4 and 6
-  module _ (a : AfterRelease) (k : ℕ) (st : List ℕ) (d : n ≡ entryNumber state status true true) (w : k ≡ resultOf (replied (a .reply))) (b : st ≡ packState (a .state)) where
-    release-through : (o : ReleaseOutcome) → releaseOutcome a ≡ o
-        → outcome k (lent st status mem answer out) ≡ crossing (lent state status mem answer out) true true (released (lent state status mem answer out) o)
-    unfolding released
-    release-through o h =
-        alike (w ∙ ap (λ (o : ReleaseOutcome). resultOf (o .says)) h) (b ∙ ap (λ (o : ReleaseOutcome). packState (o .state)) h) refl refl refl refl
-        ∙ crossed (lent state status mem answer out) true true _ n d f
+    read-told : (F : World → Outcome RxRead) → Stays (worldOf L) out (F (worldOf L))
+        → outcome (readSays a) (world s r mem) after ≡ F (world s r mem)
+        → returned k (lent state recorded mem m after)
+        ≡ crossing L (has answer 16) true (inWords L readWords (F (worldOf L)))
+    read-told F stays h =
+        let two = open-recorded state recorded (has answer 16) true n d f in
+        told-of state recorded mem answer out (has answer 16) true n d f k state recorded m s r
+        (same-state state s back x) (same-recorded recorded r two y) s r x back y
+        readWords F stays (readSays a) mem after h p z
 
-    module _ (s : State) (r : Record) (x : s ≡ unpackState state) (y : r ≡ unpackRecord status) where
-      pub fifo-acknowledged : (fifo place : ℕ) → releaseOutcome a ≡ acknowledgeRule s r (length mem) fifo place
-          → outcome k (lent st status mem answer out) ≡ acknowledgeFifoCall (lent state status mem answer out) fifo place
-      unfolding acknowledgeFifoCall
-      fifo-acknowledged fifo place h = release-through (acknowledgeRule (unpackState state) (unpackRecord status) (length mem) fifo place) (cc)
+    pub fifo-read : (fifo place : ℕ)
+        → outcome (readSays a) (world s r mem) after ≡ readFifo (world s r mem) fifo place out
+        → returned k (lent state recorded mem m after) ≡ readFifoCall L fifo place
+    unfolding readFifoCall
+    fifo-read fifo place =
+        read-told (λ (w : World). readFifo w fifo place out) (calls-are-shaped _ _ _ _ _ _ .stays)
 
-      pub buffer-released : (buffer : ℕ) → releaseOutcome a ≡ releaseRule s r (length mem) buffer
-          → outcome k (lent st status mem answer out) ≡ releaseBufferCall (lent state status mem answer out) buffer
-      unfolding releaseBufferCall
-      buffer-released buffer h = release-through (releaseRule (unpackState state) (unpackRecord status) (length mem) buffer) (cc)
+    pub buffer-read : (buffer : ℕ)
+        → outcome (readSays a) (world s r mem) after ≡ readBuffer (world s r mem) buffer out
+        → returned k (lent state recorded mem m after) ≡ readBufferCall L buffer
+    unfolding readBufferCall
+    buffer-read buffer = read-told (λ (w : World). readBuffer w buffer out) (calls-are-shaped _ _ _ _ _ _ .stays)
+
+  -- ---- calls 4 and 6 leave the record, and have nothing to tell
+
+  module _ (a : Reply) (t : State) (k : ℕ) (st : List ℕ) (d : n ≡ entryNumber state recorded true true)
+      (p : k ≡ resultOf (replied a)) (e : st ≡ packState t) where
+    abbrev M : Lent
+    M = lent state recorded mem answer []
+
+    release-told : (F : World → Outcome (Unit {0})) → Stays (worldOf M) [] (F (worldOf M))
+        → settles (replied a) (world t r mem) ≡ F (world s r mem)
+        → returned k (lent st recorded mem answer []) ≡ crossing M true true (inWords M noWords (F (worldOf M)))
+    release-told F stays h =
+        let two = open-recorded state recorded true true n d f in
+        told-of state recorded mem answer [] true true n d f k st recorded answer t r
+        e (same-recorded recorded r two y) s r x back y
+        noWords F stays (replied a) mem [] h p (untold answer (replied a))
+
+    pub fifo-acknowledged : (fifo place : ℕ)
+        → settles (replied a) (world t r mem) ≡ acknowledgeFifo (world s r mem) fifo place
+        → returned k (lent st recorded mem answer []) ≡ acknowledgeFifoCall M fifo place
+    unfolding acknowledgeFifoCall
+    fifo-acknowledged fifo place =
+        release-told (λ (w : World). acknowledgeFifo w fifo place) (calls-are-shaped _ _ _ _ _ _ .stays)
+
+    pub buffer-released : (buffer : ℕ)
+        → settles (replied a) (world t r mem) ≡ releaseBuffer (world s r mem) buffer
+        → returned k (lent st recorded mem answer []) ≡ releaseBufferCall M buffer
+    unfolding releaseBufferCall
+    buffer-released buffer = release-told (λ (w : World). releaseBuffer w buffer) (calls-are-shaped _ _ _ _ _ _ .stays)

@@ -1,5 +1,5 @@
 // Call 2 on words.
-use c_answers::answers::tell_received;
+use c_answers::receiving_answers::tell_received;
 use c_entering::entering::enter_frame;
 use c_words::frames::take_frame;
 use c_words::states::put_both;
@@ -10,51 +10,57 @@ use receiving::receive::AfterReceive;
 ghost use mathlib.Core.Path.{_≡_};
 ghost use mathlib.Core.List.{[]};
 ghost use lib.ListN.{length};
-ghost use Rattle.receiving.specs.Receive.{receiveOutcome, receiveRule};
+ghost use Rattle.shape.specs.Calls.{settles};
+ghost use Rattle.engine.specs.Calls.{world};
+ghost use Rattle.receiving.specs.Receive.{meaning as receiveSays, receive as receiveRule};
 ghost use Rattle.c_words.specs.Frames.{unpackFrame};
-ghost use Rattle.c_words.specs.States.{unpackState, unpackRecord, Unpackable};
-ghost use Rattle.c_entering.specs.Crossing.{outcome, lent};
+ghost use Rattle.c_words.specs.Needs.{BoxWords};
+ghost use Rattle.c_words.specs.States.{unpackState, ComesBack, unpackRecord};
+ghost use Rattle.c_entering.specs.Entering.{returned, lent};
 ghost use Rattle.c_receiving.specs.ReceivingCalls.{receiveCall};
 
-// Of the state, record and frame that stand in these words.
+// The receive of the state, record and frame that stand in these words.
 fn receive_of(
     state: &[u32],
-    status: &[u32],
+    recorded: &[u32],
     mem: &mut [u32],
     frame: &[u32],
     bytes: &[u8],
     time: u16,
 ) -> AfterReceive
-    requires { ⌜ Unpackable (now state) (now status) × (length (now frame) ≡ 7) ⌝ }
-    ensures { λ a. ⌜ receiveOutcome a (now (mem .exit)) ≡ receiveRule (unpackState (now (state .entry))) (unpackRecord (now (status .entry))) (now (mem .entry)) (unpackFrame (now (frame .entry))) (now (bytes .entry)) time ⌝ }
+    requires { ⌜ BoxWords (now state) (now recorded) × (length (now frame) ≡ 7) ⌝ }
+    ensures { λ a. ⌜ (settles (receiveSays (a .answer)) (world (a .state) (a .recorded) (now (mem .exit)))
+        ≡ receiveRule
+        (world (unpackState (now (state .entry))) (unpackRecord (now (recorded .entry))) (now (mem .entry)))
+        (unpackFrame (now (frame .entry))) (now (bytes .entry)) time)
+        × ComesBack (now (state .entry)) ⌝ }
 {
-    receive::receive(
-        take_state(state),
-        take_record(status),
-        mem,
-        take_frame(frame),
-        bytes,
-        time,
-    )
+    let s = take_state(state);
+    let r = take_record(recorded);
+    receive::receive(s, r, mem, take_frame(frame), bytes, time)
 }
 
+// Receives a frame.
 pub fn receive(
     state: &mut [u32],
-    status: &mut [u32],
+    recorded: &mut [u32],
     mem: &mut [u32],
     frame: &[u32],
     bytes: &[u8],
     time: u16,
     answer: &mut [u32],
 ) -> u32
-    ensures { λ n. ⌜ outcome n (lent (now (state .exit)) (now (status .exit)) (now (mem .exit)) (now (answer .exit)) []) ≡ receiveCall (lent (now (state .entry)) (now (status .entry)) (now (mem .entry)) (now (answer .entry)) []) (now (frame .entry)) (now (bytes .entry)) time ⌝ }
+    ensures { λ n. ⌜ returned n
+        (lent (now (state .exit)) (now (recorded .exit)) (now (mem .exit)) (now (answer .exit)) [])
+        ≡ receiveCall (lent (now (state .entry)) (now (recorded .entry)) (now (mem .entry)) (now (answer .entry)) [])
+        (now (frame .entry)) (now (bytes .entry)) time ⌝ }
 {
-    let n = enter_frame(state, status, frame, answer.len(), true);
+    let n = enter_frame(state, recorded, frame, answer.len(), true);
     if n != 0 {
         return n;
     }
-    let after = receive_of(state, status, mem, frame, bytes, time);
+    let after = receive_of(state, recorded, mem, frame, bytes, time);
     let fate = after.answer;
-    put_both(state, status, after.state, after.status);
+    put_both(state, recorded, after.state, after.recorded);
     tell_received(answer, fate)
 }

@@ -1,50 +1,28 @@
+-- Where it is let in, the law of a call that leaves the state and the record.
 use Rattle.c_receiving.specs.ReceivingCalls.{readBufferCall}
-use Rattle.c_entering.proofs.Entries.{turned-away, open-state, open-status, open-only}
-use Rattle.c_receiving.proofs.Bounds.{buffer-index}
+use Rattle.c_entering.proofs.Entries.{turned-away, open-state, open-recorded, open-only}
+use Rattle.c_receiving.proofs.Bounds.{index-told}
 use Rattle.c_receiving.proofs.ReceivingCalls.{buffer-read}
 use borrow.Author.Needs.{needs}
 use Rattle.c_receiving.proofs.reads.read_buffer.Statement.{statement}
 use Rattle.c_receiving.proofs.reads.read_buffer.Tie as tie
-use Rattle.c_receiving.proofs.reads.read_buffer.Reads as reads
-
-enter-requires : tie.Need-enter-requires
-enter-requires c κs = search needs
 
 returns : tie.Need-returns
 unfolding readBufferCall
 returns c = search (turned-away, needs)
 
-take-state-requires : tie.Need-take-state-requires
-take-state-requires c κs = search (open-state, needs)
-
-take-record-requires : tie.Need-take-record-requires
-take-record-requires c κs = search (open-status, needs)
-
-read-buffer-requires : tie.Need-read-buffer-requires
-read-buffer-requires c κs = search needs
-
 tell-read-requires : tie.Need-tell-read-requires
-tell-read-requires c κs = record { room = search (open-only, needs); fits = search (buffer-index, needs) }
-
-same-length : tie.Need-same-length
-same-length c = search needs
-
-same-length-2 : tie.Need-same-length-2
-same-length-2 c = search needs
-
-returns-2 : tie.Need-returns-2
-returns-2 c = search (buffer-read, needs)
+tell-read-requires c κs = record { room = search (open-only, needs); fits = search (index-told, needs) }
 
 pub read-buffer-spec : {M : Type 1} → statement M
 read-buffer-spec =
     tie.close
     (tie.spec
-    enter-requires
+    (λ c κs. search needs)
     returns
-    take-state-requires
-    take-record-requires
-    read-buffer-requires
+    (λ c κs. search (open-state, needs))
+    (λ c κs. search (open-recorded, needs))
+    (λ c κs. search needs)
     tell-read-requires
-    same-length
-    same-length-2
-    returns-2)
+    (λ c. search needs) (λ c. search needs)
+    (λ c. search (buffer-read, needs)))

@@ -1,52 +1,24 @@
+-- Where it is let in, the law of a call that has nothing to tell.
 use Rattle.c_receiving.specs.ReceivingCalls.{acknowledgeFifoCall}
-use Rattle.c_entering.proofs.Entries.{turned-away, open-state, open-status}
+use Rattle.c_entering.proofs.Entries.{turned-away, open-state, open-size, open-recorded}
 use Rattle.c_receiving.proofs.ReceivingCalls.{fifo-acknowledged}
 use borrow.Author.Needs.{needs}
 use Rattle.c_receiving.proofs.releases.acknowledge_fifo.Statement.{statement}
 use Rattle.c_receiving.proofs.releases.acknowledge_fifo.Tie as tie
 
-enter-requires : tie.Need-enter-requires
-enter-requires c κs = search needs
-
-same-length : tie.Need-same-length
-same-length c = search needs
-
 returns : tie.Need-returns
 unfolding acknowledgeFifoCall
 returns c = search (turned-away, needs)
-
-take-state-requires : tie.Need-take-state-requires
-take-state-requires c κs = search (open-state, needs)
-
-take-record-requires : tie.Need-take-record-requires
-take-record-requires c κs = search (open-status, needs)
-
-acknowledge-fifo-requires : tie.Need-acknowledge-fifo-requires
-acknowledge-fifo-requires c κs = search needs
-
-put-state-requires : tie.Need-put-state-requires
-put-state-requires c κs = search (open-state, needs)
-
-reply-number-requires : tie.Need-reply-number-requires
-reply-number-requires c κs = search needs
-
-same-length-2 : tie.Need-same-length-2
-same-length-2 c = search needs
-
-returns-2 : tie.Need-returns-2
-returns-2 c = search (fifo-acknowledged, needs)
 
 pub acknowledge-fifo-spec : {M : Type 1} → statement M
 acknowledge-fifo-spec =
     tie.close
     (tie.spec
-    enter-requires
-    same-length
+    (λ c κs. search needs) (λ c. search needs)
     returns
-    take-state-requires
-    take-record-requires
-    acknowledge-fifo-requires
-    put-state-requires
-    reply-number-requires
-    same-length-2
-    returns-2)
+    (λ c κs. search (open-state, needs))
+    (λ c κs. search (open-recorded, needs))
+    (λ c κs. search needs)
+    (λ c κs. search (open-size, needs))
+    (λ c κs. search needs) (λ c. search needs)
+    (λ c. search (fifo-acknowledged, needs)))
