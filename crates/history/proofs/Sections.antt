@@ -1,5 +1,4 @@
--- What changes in one of the engine's own sections leaves the words that are in none of them, the filter lists among
--- these.
+-- A change in one of the engine's own sections leaves the words that are in none of them, as those of the filter lists.
 -- Assumes nothing.
 use Prim.Native.Nat.{ℕ, _+_, _≤_, _<_}
 use mathlib.Core.Path.{_≡_, refl, sym, _∙_}

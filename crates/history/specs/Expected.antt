@@ -1,5 +1,5 @@
--- What every call tells, from the book, the inputs, and the registers and filter words of the start. Refusal 20 is left
--- out: it is never met.
+-- What every call tells, from the book, the inputs, and the registers and filter words of the start.
+-- Refusal 20 is left out: it is never met.
 use Prim.Native.Nat.{ℕ, _-_, _%_}
 use mathlib.Core.Bool.{not, _&&_, _||_}
 use mathlib.Core.List.{List, [], _∷_, _++_}

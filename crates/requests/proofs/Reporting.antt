@@ -1,5 +1,4 @@
--- The report: accepted exactly where the buffer is the book's best, of which it leaves the request sent and its event
--- due.
+-- The report: accepted exactly where the buffer is the book's best, whose request it leaves sent, with its event due.
 -- Assumes nothing.
 use Prim.Native.Nat.{ℕ, _<_}
 use mathlib.Core.Path.{_≡_, refl, sym, ap, ap₂, _∙_}

@@ -1,5 +1,4 @@
--- What a call tells where its world is fit: 20 is not given, and the other refusals, the answer and the output may be
--- said otherwise.
+-- What a call tells in a fit world: 20 is not given, and the other refusals, answer and output may be said otherwise.
 -- Assumes nothing.
 use Prim.Native.Nat.{ℕ}
 use mathlib.Core.Path.{_≡_, refl, ap, _∙_}

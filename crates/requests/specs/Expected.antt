@@ -1,4 +1,5 @@
--- What calls 7 to 11 tell, from the book, the registers and the inputs alone. Refusal 20 is left out: it is never met.
+-- What calls 7 to 11 tell, from the book, the registers and the inputs alone.
+-- Refusal 20 is left out: it is never met.
 use Prim.Native.Nat.{ℕ, _+_, _*_, _%_}
 use mathlib.Core.Bool.{Bool, not, _&&_, _||_}
 use mathlib.Core.List.{List, [], _∷_}

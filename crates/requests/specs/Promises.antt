@@ -1,5 +1,4 @@
--- What is promised of the book: its answers are those of the calls, and it agrees with the world after each. Statements
--- only.
+-- What is promised of the book: it tells what the calls tell, and agrees with the world after each. Statements only.
 use Prim.Native.Nat.{ℕ, _≤_}
 use mathlib.Core.Path.{_≡_}
 use mathlib.Core.Bool.{Bool}
