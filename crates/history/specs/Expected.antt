@@ -1,134 +1,128 @@
--- What every call answers, told from the book, the inputs, and the registers and filter words of the start.
--- Of the memory at the start, here called began, the words of the filter lists are looked at and no others.
+-- What every call tells, from the book, the inputs, and the registers and filter words of the start.
+-- Refusal 20 is left out: it is never met.
 use Prim.Native.Nat.{ℕ, _-_, _%_}
 use mathlib.Core.Bool.{not, _&&_, _||_}
-use mathlib.Core.List.{List, [], _∷_}
+use mathlib.Core.List.{List, [], _∷_, _++_}
 use lib.Dec.{ltb, leb}
 use lib.ListN.{length}
 use Rattle.words.specs.Choice.{pick}
 use Rattle.words.specs.Bits.{isSet}
-use Rattle.words.specs.Rules.{Ruling, refuseIf, first, settle}
 use Rattle.words.specs.Runs.{splice}
-use Rattle.registers.specs.declared.Registers.{Registers}
 use Rattle.frame.specs.Malformed.{malformed}
 use Rattle.frame.specs.declared.Frame.{Frame}
+use Rattle.registers.specs.Fields.{fifoSize, overwrites, buffers, eventSize, dedicated, shared, isQueue}
+use Rattle.registers.specs.declared.Registers.{Registers}
 use Rattle.element.specs.Bytes.{rxRead, readBytes}
 use Rattle.element.specs.Headers.{eventHeaderIn, headed}
 use Rattle.element.specs.declared.EventHeader.{EventHeader}
-use Rattle.layout.specs.Sections.{memoryWords}
-use Rattle.layout.specs.Verdict.{verdict, reported}
+use Rattle.element.specs.declared.RxRead.{RxRead}
+use Rattle.layout.specs.Sections.{memoryWords, sectionsOf}
+use Rattle.layout.specs.Verdict.{rules}
 use Rattle.filter.specs.Destination.{Goes, toFifo, toBuffer, discarded, destination}
-use Rattle.engine.specs.Answers.{Says, refuses, answers, done, wrongOutput}
-use Rattle.engine.specs.Areas.{fifoSize, fifoArea, bufferArea, eventSize, shared, isQueue, dataWords}
-use Rattle.engine.specs.declared.areas.Area.{Area}
-use Rattle.engine.specs.declared.keeping.Keeper.{Keeper}
-use Rattle.engine.specs.declared.overview.RingStatus.{RingStatus}
-use Rattle.engine.specs.declared.overview.Overview.{Overview}
-use Rattle.receiving.specs.Fifos.{keeperOf}
+use Rattle.places.specs.declared.Area.{Area}
+use Rattle.areas.specs.Areas.{fifoArea, bufferArea, dataWords}
+use Rattle.shape.specs.Histories.{Told}
+use Rattle.shape.specs.Refusals.{Refusals}
+use Rattle.engine.specs.Calls.{_when_, outputRefusals}
+use Rattle.starting.specs.Starting.{flat, unreported}
 use Rattle.receiving.specs.Receive.{Fate, storedBuffer, dropped, slotSays}
-use Rattle.taking.specs.Reading.{ReadOutcome, unread}
-use Rattle.reporting.specs.Reporting.{eventKeeper}
-use Rattle.ledger.specs.Ledgers.{Ledger, entryAt, isHeldAt, expectPut, expectOldest, expectSlot}
-use Rattle.ledger.specs.Lists.{tally}
-use Rattle.requests.specs.Balance.{isShared}
-use Rattle.requests.specs.Expected.{expectDedicated, expectShared, expectCancel, expectChoice, expectReport}
-use Rattle.handler.specs.Calls.{Call, start, receive, readFifo, acknowledgeFifo, readBuffer, releaseBuffer, requestDedicated, requestShared, cancel, askChoice, reportSent, readEvent, acknowledgeEvent, clearFlags, status, Answer}
-use Rattle.history.specs.Books.{Book, fifoLedger, lastIn, requestOf}
+use Rattle.overview.specs.declared.Overview.{Overview}
+use Rattle.overview.specs.declared.RingStatus.{RingStatus}
+use Rattle.books.specs.Ledgers.{Ledger, entryAt, isHeldAt, expectPut, expectOldest, expectSlot}
+use Rattle.books.specs.Lists.{tally}
+use Rattle.books.specs.Requests.{isShared}
+use Rattle.requests.specs.Expected.{expected, expectDedicated, expectShared, expectCancel, expectChoice, expectReport}
+use Rattle.handler.specs.Calls.{Call, start, receive, readFifo, acknowledgeFifo, readBuffer, releaseBuffer}
+use Rattle.handler.specs.Calls.{requestDedicated, requestShared, cancel, askChoice, reportSent, readEvent}
+use Rattle.handler.specs.Calls.{acknowledgeEvent, clearFlags, reportStatus, Answer}
+use Rattle.history.specs.Books.{Book, fifoLedger, lastIn}
 
 -- ---- receive
 
 -- by where the frame goes: of a FIFO, the book tells the slot
 abbrev pub fateOf : Registers → Book → Goes → Fate
-fateOf g b (toFifo fifo priority m) = slotSays fifo m (expectSlot (keeperOf g fifo) (fifoLedger b fifo))
+fateOf g b (toFifo fifo priority m) =
+    slotSays fifo m (expectSlot (fifoSize g fifo) (overwrites g fifo) (fifoLedger b fifo))
 fateOf g b (toBuffer buffer i) = storedBuffer buffer i
 fateOf g b (discarded why m) = dropped why m
 
-unfoldable pub expectReceive : Registers → List ℕ → Book → Frame → List ℕ → Says Fate
-expectReceive g began b f d =
-    settle (first (refuseIf (malformed f (length d)) 21 ∷ refuseIf (f .fdf && not (g .fdon)) 22 ∷ []))
-    (answers (fateOf g b (destination g began f (b .newdata))))
-    refuses
+unfoldable pub expectReceive : Registers → Book → Frame → List ℕ → Goes → Told Fate
+expectReceive g b f d goes =
+    expected [] (21 when malformed f (length d) ∷ 22 when (f .fdf && not (g .fdon)) ∷ []) (fateOf g b goes) []
 
 -- ---- reads and releases
 
--- what a read gives of an element's own words
-abbrev pub readOf : Area → List ℕ → List ℕ → ReadOutcome
-readOf a ws out = record { says = answers (rxRead ws 0 (dataWords a)); output = splice out 0 (readBytes ws 0 (dataWords a)) }
-
 -- 23 and 29 of a place in FIFO 0 or 1, of an Rx buffer, and of an event
-abbrev pub fifoRules : Registers → Book → ℕ → ℕ → List (Ruling ℕ) → Ruling ℕ
-fifoRules g b fifo place more = first (refuseIf (ltb 1 fifo || leb (fifoSize g fifo) place) 23 ∷ refuseIf (not (isHeldAt place (fifoLedger b fifo))) 29 ∷ more)
+abbrev pub fifoAgainst : Registers → Book → ℕ → ℕ → Refusals
+fifoAgainst g b fifo place =
+    23 when (ltb 1 fifo || leb (fifoSize g fifo) place) ∷ 29 when not (isHeldAt place (fifoLedger b fifo)) ∷ []
 
-abbrev pub bufferRules : Registers → Book → ℕ → List (Ruling ℕ) → Ruling ℕ
-bufferRules g b buffer more = first (refuseIf (leb (g .buffers) buffer) 23 ∷ refuseIf (not (isSet (b .newdata) buffer)) 29 ∷ more)
+abbrev pub bufferAgainst : Registers → Book → ℕ → Refusals
+bufferAgainst g b buffer = 23 when leb (buffers g) buffer ∷ 29 when not (isSet (b .newdata) buffer) ∷ []
 
-abbrev pub eventRules : Registers → Book → ℕ → Ruling ℕ
-eventRules g b place = first (refuseIf (leb (eventSize g) place) 23 ∷ refuseIf (not (isHeldAt place (b .events))) 29 ∷ [])
+abbrev pub eventAgainst : Registers → Book → ℕ → Refusals
+eventAgainst g b place = 23 when leb (eventSize g) place ∷ 29 when not (isHeldAt place (b .events)) ∷ []
 
-unfoldable pub expectReadFifo : Registers → Book → ℕ → ℕ → List ℕ → ReadOutcome
-expectReadFifo g b fifo place out =
-    settle (fifoRules g b fifo place (refuseIf (wrongOutput out) 30 ∷ []))
-    (readOf (fifoArea g fifo) (entryAt place (fifoLedger b fifo .held) .words) out)
-    (unread out)
+-- what a read tells of an element of an area, by its own words
+unfoldable pub expectRead : List ℕ → Refusals → Area → List ℕ → Told RxRead
+expectRead out rows a ws =
+    expected out (rows ++ outputRefusals (length out)) (rxRead ws 0 (dataWords a))
+    (splice out 0 (readBytes ws 0 (dataWords a)))
 
-unfoldable pub expectAcknowledge : Registers → Book → ℕ → ℕ → Says (Unit {0})
-expectAcknowledge g b fifo place = settle (fifoRules g b fifo place []) done refuses
+unfoldable pub expectReadEvent : Registers → Book → ℕ → Told EventHeader
+expectReadEvent g b place =
+    expected [] (eventAgainst g b place) (headed eventHeaderIn (entryAt place (b .events .held) .words) 0) []
 
-unfoldable pub expectReadBuffer : Registers → Book → ℕ → List ℕ → ReadOutcome
-expectReadBuffer g b buffer out =
-    settle (bufferRules g b buffer (refuseIf (wrongOutput out) 30 ∷ []))
-    (readOf (bufferArea g) (lastIn buffer (b .buffered)) out)
-    (unread out)
-
-unfoldable pub expectRelease : Registers → Book → ℕ → Says (Unit {0})
-expectRelease g b buffer = settle (bufferRules g b buffer []) done refuses
-
-unfoldable pub expectReadEvent : Registers → Book → ℕ → Says EventHeader
-expectReadEvent g b place = settle (eventRules g b place) (answers (headed eventHeaderIn (entryAt place (b .events .held) .words) 0)) refuses
-
-unfoldable pub expectAcknowledgeEvent : Registers → Book → ℕ → Says (Unit {0})
-expectAcknowledgeEvent g b place = settle (eventRules g b place) done refuses
+-- a call that has nothing to tell
+abbrev pub expectDone : Refusals → Told (Unit {0})
+expectDone rows = expected [] rows tt []
 
 -- ---- status
 
-abbrev pub ringOf : Keeper → Ledger → RingStatus
-ringOf k l = record { fill = length (l .held); oldest = expectOldest k l; put = expectPut k l }
+abbrev pub ringOf : ℕ → Ledger → RingStatus
+ringOf size l = record { fill = length (l .held); oldest = expectOldest size l; put = expectPut size l }
 
 -- the shared FIFO's places are used in turn, so its requests tell where it stands; a queue's three numbers are 0
 abbrev pub sharedOf : Registers → Book → RingStatus
 sharedOf g b =
-    let asked = tally (isShared g) (b .requests .requested) in
-    let waiting = tally (isShared g) (b .requests .pending) in
+    let asked = tally (isShared (dedicated g)) (b .requests .requested) in
+    let waiting = tally (isShared (dedicated g)) (b .requests .pending) in
     pick (isQueue g)
     (record { fill = 0; oldest = 0; put = 0 })
     (record { fill = waiting; oldest = (asked - waiting) % shared g; put = asked % shared g })
 
-abbrev pub expectStatus : Registers → Book → Overview
-expectStatus g b = record {
-  fifo0 = ringOf (keeperOf g 0) (b .fifo0);
-  fifo1 = ringOf (keeperOf g 1) (b .fifo1);
-  events = ringOf (eventKeeper g) (b .events);
+abbrev pub statusIn : Registers → Book → Overview
+statusIn g b = record {
+  fifo0 = ringOf (fifoSize g 0) (b .fifo0);
+  fifo1 = ringOf (fifoSize g 1) (b .fifo1);
+  events = ringOf (eventSize g) (b .events);
   shared = sharedOf g b;
   pending = length (b .requests .pending);
 }
 
 -- ---- every call
 
-abbrev pub expect : Registers → List ℕ → Book → (c : Call) → Answer c
-expect g began b (start regs) =
-    let v = verdict memoryWords regs (length began) in
-    record { says = v; sections = reported v regs }
-expect g began b (receive f d time) = expectReceive g began b f d
-expect g began b (readFifo fifo place out) = expectReadFifo g b fifo place out
-expect g began b (acknowledgeFifo fifo place) = expectAcknowledge g b fifo place
-expect g began b (readBuffer buffer out) = expectReadBuffer g b buffer out
-expect g began b (releaseBuffer buffer) = expectRelease g b buffer
-expect g began b (requestDedicated buffer f d marker wish) = expectDedicated g (b .requests) buffer (requestOf f d marker wish)
-expect g began b (requestShared f d marker wish) = expectShared g (b .requests) (requestOf f d marker wish)
-expect g began b (cancel buffer) = expectCancel g (b .requests) buffer
-expect g began b (askChoice passive out) = expectChoice g (b .requests) passive out
-expect g began b (reportSent buffer passive time) = expectReport g (b .requests) buffer
-expect g began b (readEvent place) = expectReadEvent g b place
-expect g began b (acknowledgeEvent place) = expectAcknowledgeEvent g b place
-expect g began b (clearFlags mask) = done
-expect g began b status = answers (expectStatus g b)
+-- with a memory of so many words, and where a frame goes by the filters while so many new-data bits are set
+abbrev pub expectBy : Registers → ℕ → (Frame → ℕ → Goes) → Book → (c : Call) → Told (Answer c)
+expectBy g words goes b (start regs) =
+    expected unreported (rules memoryWords regs words) tt (flat (sectionsOf regs))
+expectBy g words goes b (receive f d time) = expectReceive g b f d (goes f (b .newdata))
+expectBy g words goes b (readFifo fifo place out) =
+    expectRead out (fifoAgainst g b fifo place) (fifoArea g fifo) (entryAt place (fifoLedger b fifo .held) .words)
+expectBy g words goes b (acknowledgeFifo fifo place) = expectDone (fifoAgainst g b fifo place)
+expectBy g words goes b (readBuffer buffer out) =
+    expectRead out (bufferAgainst g b buffer) (bufferArea g) (lastIn buffer (b .buffered))
+expectBy g words goes b (releaseBuffer buffer) = expectDone (bufferAgainst g b buffer)
+expectBy g words goes b (requestDedicated buffer h d) = expectDedicated g (b .requests) buffer h d
+expectBy g words goes b (requestShared h d) = expectShared g (b .requests) h d
+expectBy g words goes b (cancel buffer) = expectCancel g (b .requests) buffer
+expectBy g words goes b (askChoice passive out) = expectChoice g (b .requests) passive out
+expectBy g words goes b (reportSent buffer passive time) = expectReport g (b .requests) buffer
+expectBy g words goes b (readEvent place) = expectReadEvent g b place
+expectBy g words goes b (acknowledgeEvent place) = expectDone (eventAgainst g b place)
+expectBy g words goes b (clearFlags mask) = expectDone []
+expectBy g words goes b reportStatus = expected [] [] (statusIn g b) []
+
+-- began is the memory at the start: of its words, those of the filter lists are looked at and no others
+abbrev pub expect : Registers → List ℕ → Book → (c : Call) → Told (Answer c)
+expect g began b c = expectBy g (length began) (destination g began) b c

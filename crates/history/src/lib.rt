@@ -1,1 +1,1 @@
-// No code: demand 3, a history of the engine rebuilt from calls and answers alone, stated in specs/ and proved in proofs/.
+// Demand 3: the history of an engine, rebuilt from calls and answers alone. Definitions and laws, no code.

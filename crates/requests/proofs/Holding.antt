@@ -1,148 +1,185 @@
--- The buffers hold the book's pending requests: what follows, and that it is kept when a request comes, when one goes, and by steps elsewhere.
+-- The Tx buffers hold the book's pending requests: what follows, and that it stays so when one comes or goes.
 -- Assumes nothing.
-use Prim.Native.Nat.{ℕ, _+_, _≤_, _<_}
-use mathlib.Core.Path.{_≡_, refl, sym, ap, ap₂, _∙_}
-use mathlib.Core.Bool.{true, false, true≢false, not}
-use mathlib.Core.List.{List, [], _∷_, _++_, append-nil}
+use Prim.Native.Nat.{ℕ, _+_, _^_, _≤_, _<_}
+use mathlib.Core.Path.{_≡_, refl, sym, ap, _∙_, subst}
+use mathlib.Core.Bool.{Bool, true, false, not}
+use mathlib.Core.List.{List}
 use native.Mathlib.Omega.{arith}
 use lib.ListN.{length}
-use borrow.Author.Tests.{ne-eqb, eqb-true, eqb-false, le-leb, lt-leb}
-use Rattle.words.specs.Bits.{bit, isSet, withoutBit}
-use Rattle.words.specs.Fields.{bits}
+use Rattle.words.specs.Bits.{bit, isSet, withBit, withoutBit}
 use Rattle.words.specs.Runs.{part, splice}
-use Rattle.ring.specs.Rings.{noneHeld, placeAfter, putPlace, pushed}
+use Rattle.words.proofs.Ranges.{only-none}
+use Rattle.ring.specs.Rings.{Fit, noneHeld, held}
 use Rattle.ring.specs.declared.Ring.{Ring}
 use Rattle.ring.proofs.Fitness.{fit-none}
-use Rattle.frame.specs.Malformed.{WellFormed}
+use Rattle.frame.proofs.SizeLaws.{words-least}
+use Rattle.registers.specs.Fields.{dedicated, shared, txCount, isQueue, txCode}
 use Rattle.registers.specs.declared.Registers.{Registers}
-use Rattle.registers.proofs.SizeLaws.{words-least}
 use Rattle.element.specs.Promises.{TxBack}
-use Rattle.element.proofs.Storing.{element-length}
+use Rattle.element.specs.Word0.{word0}
+use Rattle.element.specs.Word1.{txWord1}
 use Rattle.element.proofs.RoundTrip.{tx-back}
-use Rattle.engine.specs.Areas.{dedicated, shared, txCount, isQueue, txArea, dataWords, placeIn, Roomy}
+use Rattle.element.proofs.Storing.{element-length}
+use Rattle.layout.specs.Legal.{Legal}
+use Rattle.layout.specs.Sections.{memoryWords}
+use Rattle.places.specs.Areas.{areaRange, areaEnd, placeIn}
+use Rattle.places.specs.declared.Area.{Area}
+use Rattle.areas.specs.Areas.{txArea, dataWords}
+use Rattle.areas.proofs.Rooms.{tx-roomy}
+use Rattle.engine.specs.Calls.{World}
+use Rattle.engine.specs.Fitness.{sharedRingSize}
 use Rattle.engine.specs.States.{withTx}
 use Rattle.engine.specs.declared.state.State.{State}
-use Rattle.sending.specs.Places.{requested}
-use Rattle.ledger.specs.Memory.{KeptWithin}
-use Rattle.ledger.specs.Lists.{tally, those, others, Each}
-use Rattle.requests.specs.Requests.{Request, Typed, Entry, Book, emptyBook, isBuffer, entryFor, noteRequest, hasPending, noEntry, pendingIn}
-use Rattle.requests.specs.Balance.{isShared}
-use Rattle.requests.specs.Standing.{elementOf, InTxBuffer, Circling, TxHolds}
-use Rattle.ledger.proofs.Lists.{tally-append, tally-one, tally-none, those-append, those-one, length-those, each-first, each-snoc, each-map, each-unless, each-passes, each-those}
-use Rattle.ledger.proofs.Stores.{element-kept, store-there, store-other}
-use Rattle.requests.proofs.Pending.{told, put-bits, clear-bits, no-bits}
-use Rattle.requests.proofs.Circles.{circling-same, circling-pushed}
+use Rattle.engine.proofs.Cases.{queue-ring, fifo-ring}
+use Rattle.engine.proofs.Sounds.{sound-of}
+use Rattle.books.specs.Balance.{RequestsBalanced}
+use Rattle.books.specs.Lists.{others}
+use Rattle.books.specs.Pending.{CircleAgrees}
+use Rattle.books.specs.Requests.{Accepted, isBuffer, acceptedIn, noteRequest, hasPending}
+use Rattle.books.proofs.Buffers.{none-pending, buffers-elsewhere, buffer-filled, buffer-cleared}
+use Rattle.books.proofs.Buffers.{pending-told, pending-has, pending-words, pending-below}
+use Rattle.books.proofs.Circles.{none-waits, circle-held}
+use Rattle.books.proofs.Lists.{each-snoc, each-those}
+use Rattle.books.proofs.Requests.{no-request-balances, request-balances}
+use Rattle.requests.specs.Requests.{Request, Sendable, Book, noRequest, requestIn}
+use Rattle.requests.specs.Standing.{elementOf, TxAgrees, InStep, Leaves, LeavesTx, TxFit}
+use Rattle.requests.specs.Promises.{StartAgrees, ElsewhereAgrees, BookFits}
 
--- nothing pending
-pub holds-start : (g : Registers) (s : State) (mem : List ℕ) → s .pending ≡ 0 → s .shared ≡ noneHeld → TxHolds g emptyBook s mem
-unfolding tally those placeAfter
-holds-start g s mem p e = record {
-  bits = λ b. sym (ap (λ (w : ℕ). bit w b) p ∙ no-bits b);
-  stands = tt;
-  fifo = λ f. rw e (record { fit = fit-none (shared g) (omega arith); fill = refl; placed = λ i h. absurd (omega arith); next = refl });
-  queue = λ f. e;
-}
+abbrev IsSendable : Accepted Request → Type 0
+IsSendable e = Sendable (e .request)
 
 -- a request's element is as long as the area's elements
 pub element-each : (g : Registers) (q : Request) → length (elementOf g q) ≡ txArea g .each
-element-each g q = element-length _ _ (q .bytes) (dataWords (txArea g)) ∙ omega (arith, words-least (bits 2 0 (g .txesc .word)) (omega arith))
+element-each g q =
+    element-length (word0 (q .header .frame)) (txWord1 (q .header)) (q .bytes) (dataWords (txArea g))
+    ∙ omega (arith, words-least (txCode g) (omega arith))
 
-module _ (g : Registers) (l : Book) (s : State) (mem : List ℕ) (a : TxHolds g l s mem) where
+-- nothing pending
+pub start-agrees : StartAgrees
+start-agrees g s mem p e = record {
+  buffers = rw p (none-pending Request (txArea g) (elementOf g) mem);
+  sendable = tt;
+  fifo = λ f. rw e (none-waits Request (dedicated g) (shared g) (omega arith));
+  queue = λ f. e;
+  balanced = no-request-balances Request;
+}
+
+pub elsewhere-agrees : ElsewhereAgrees
+elsewhere-agrees g l s mem h room next other p e same = record {
+  buffers =
+      rw p
+      (buffers-elsewhere Request (txArea g) (elementOf g) (l .pending) (s .pending) mem (h .buffers) room other same);
+  sendable = h .sendable;
+  fifo = λ f. rw e (h .fifo f);
+  queue = λ f. e ∙ h .queue f;
+  balanced = h .balanced;
+}
+
+module _ (g : Registers) (l : Book) (s : State) (mem : List ℕ) (h : TxAgrees g l s mem) where
   -- ---- what follows
 
-  pub pending-told : (b : ℕ) → hasPending l b ≡ isSet (s .pending) b
-  pending-told b = told (l .pending) (s .pending) (a .bits) b
-
-  -- no bit past the count
-  pub none-past : (b : ℕ) → txCount g ≤ b → bit (s .pending) b ≡ 0
-  none-past b h = sym (a .bits b) ∙ tally-none (isBuffer b) (l .pending) (each-map (InTxBuffer g mem) _ (l .pending) (λ e t. ne-eqb (e .buffer) b (λ f. omega (arith, t .buffer))) (a .stands))
+  pub is-pending : (b : ℕ) → hasPending l b ≡ isSet (s .pending) b
+  is-pending b = pending-told Request (txArea g) (elementOf g) l (s .pending) mem (h .buffers) b
 
   -- a pending buffer has the header and the bytes of the request that the book has in it
-  pub reads-back : (b : ℕ) → 0 < tally (isBuffer b) (l .pending)
-      → TxBack mem (placeIn (txArea g) b) (dataWords (txArea g)) (pendingIn l b .marker) (pendingIn l b .wish) (pendingIn l b .frame) (pendingIn l b .bytes)
-  reads-back b h =
-      let there : List Entry = those (isBuffer b) (l .pending) in
-      let some : 0 < length there = omega (arith, h, length-those (isBuffer b) (l .pending)) in
-      let t = each-first (InTxBuffer g mem) noEntry there some (each-those (isBuffer b) (InTxBuffer g mem) (l .pending) (a .stands)) in
-      let here = each-first (λ x. isBuffer b x ≡ true) noEntry there some (each-passes (isBuffer b) (l .pending)) in
-      let q = pendingIn l b in
-      tx-back mem (placeIn (txArea g) b) (dataWords (txArea g)) (q .marker) (q .wish) (q .frame) (q .bytes)
-      (ap₂ (λ (k n : ℕ). part (placeIn (txArea g) k) n mem) (sym (eqb-true _ b here)) (element-each g q) ∙ t .words)
+  pub reads-back : (b : ℕ) → hasPending l b ≡ true
+      → TxBack mem (placeIn (txArea g) b) (dataWords (txArea g)) (requestIn l b .header) (requestIn l b .bytes)
+  reads-back b e =
+      let q = requestIn l b in
+      let t = pending-has l (record { number = 0; buffer = 0; request = noRequest }) b e IsSendable (h .sendable) in
+      tx-back mem (placeIn (txArea g) b) (dataWords (txArea g)) (q .header) (q .bytes)
+      (ap (λ (n : ℕ). part (placeIn (txArea g) b) n mem) (element-each g q)
+      ∙ pending-words Request (txArea g) (elementOf g) l (s .pending) mem (h .buffers) noRequest b e)
       (t .typed .marker) (t .formed) (t .typed .bytes)
-
-  -- ---- another's step
-
-  pub holds-elsewhere : (next : State) (other : List ℕ) → next .pending ≡ s .pending → next .shared ≡ s .shared
-      → Roomy (txArea g) (length mem) → KeptWithin (txArea g) mem other → TxHolds g l next other
-  holds-elsewhere next other p e room same = record {
-    bits = λ b. a .bits b ∙ sym (ap (λ (w : ℕ). bit w b) p);
-    stands = each-map (InTxBuffer g mem) (InTxBuffer g other) (l .pending)
-        (λ x t. record {
-          buffer = t .buffer;
-          formed = t .formed;
-          typed = t .typed;
-          words = element-kept (txArea g) mem other (room .room) same (x .buffer) (t .buffer) ∙ t .words;
-        })
-        (a .stands);
-    fifo = λ f. rw e (a .fifo f);
-    queue = λ f. e ∙ a .queue f;
-  }
 
   -- ---- a request comes
 
-  module _ (room : Roomy (txArea g) (length mem)) (b : ℕ) (h : b < txCount g) (q : Request) (w : WellFormed (q .frame) (length (q .bytes))) (t : Typed q) (z : bit (s .pending) b ≡ 0) where
-    put-stands : Each (InTxBuffer g (splice mem (placeIn (txArea g) b) (elementOf g q))) (l .pending ++ entryFor l b q ∷ [])
-    put-stands =
-        each-snoc (InTxBuffer g (splice mem (placeIn (txArea g) b) (elementOf g q))) (l .pending) (entryFor l b q)
-        (each-unless (isBuffer b) (InTxBuffer g mem) (InTxBuffer g (splice mem (placeIn (txArea g) b) (elementOf g q))) (l .pending) (a .bits b ∙ z)
-        (λ x n v. record {
-          buffer = v .buffer;
-          formed = v .formed;
-          typed = v .typed;
-          words = store-other (txArea g) mem (room .room) b h (elementOf g q) (element-each g q) (x .buffer) (eqb-false (x .buffer) b n) (v .buffer) ∙ v .words;
-        })
-        (a .stands))
-        (record { buffer = h; formed = w; typed = t; words = store-there (txArea g) mem (room .room) b h (elementOf g q) (element-each g q) })
-
-    put-holds : (ring : Ring) → (isQueue g ≡ false → Circling g (noteRequest l q b) ring) → (isQueue g ≡ true → ring ≡ noneHeld)
-        → TxHolds g (noteRequest l q b) (requested s ring b) (splice mem (placeIn (txArea g) b) (elementOf g q))
-    put-holds ring f e = record { bits = put-bits (l .pending) (s .pending) (a .bits) (entryFor l b q) z; stands = put-stands; fifo = f; queue = e }
-
-    -- in a dedicated buffer
-    pub put-dedicated : b < dedicated g → TxHolds g (noteRequest l q b) (requested s (s .shared) b) (splice mem (placeIn (txArea g) b) (elementOf g q))
-    put-dedicated k =
-        let n : isShared g (entryFor l b q) ≡ false = lt-leb (dedicated g) b k in
-        put-holds (s .shared)
-        (λ f. circling-same g l (s .shared) (a .fifo f) (noteRequest l q b)
-        (those-append (isShared g) (l .pending) (entryFor l b q ∷ []) ∙ rw (those-one, n, append-nil))
-        (tally-append (isShared g) (l .requested) (entryFor l b q ∷ []) ∙ rw (tally-one, n) (omega arith)))
-        (a .queue)
-
-    -- in a queue's buffer
-    pub put-queue : isQueue g ≡ true → TxHolds g (noteRequest l q b) (requested s (s .shared) b) (splice mem (placeIn (txArea g) b) (elementOf g q))
-    put-queue y = put-holds (s .shared) (λ f. absurd (true≢false (sym y ∙ f))) (a .queue)
-
-    -- at a FIFO's put place
-    pub put-fifo : isQueue g ≡ false → s .shared .fill < shared g → b ≡ dedicated g + putPlace (s .shared) (shared g)
-        → TxHolds g (noteRequest l q b) (requested s (pushed (s .shared)) b) (splice mem (placeIn (txArea g) b) (elementOf g q))
-    put-fifo n k at =
-        let y : isShared g (entryFor l b q) ≡ true = le-leb (dedicated g) b (omega arith) in
-        put-holds (pushed (s .shared))
-        (λ f. circling-pushed g l (s .shared) (a .fifo f) (noteRequest l q b) (entryFor l b q)
-        (those-append (isShared g) (l .pending) (entryFor l b q ∷ []) ∙ rw (those-one, y))
-        (tally-append (isShared g) (l .requested) (entryFor l b q ∷ []) ∙ rw (tally-one, y) (omega arith))
-        k at)
-        (λ y. absurd (true≢false (sym y ∙ n)))
-
-  -- ---- a request goes, sent or cancelled
-
-  pub clear-holds : txCount g ≤ 32 → (b : ℕ) → b < txCount g → (ring : Ring) (sent cancelled : List Entry) (u v : ℕ)
-      → (isQueue g ≡ false → Circling g (record { requested = l .requested; pending = others (isBuffer b) (l .pending); sent = sent; cancelled = cancelled }) ring)
+  pub filled-agrees : areaEnd (txArea g) ≤ length mem → (b : ℕ) → b < txCount g → bit (s .pending) b ≡ 0
+      → (q : Request) → Sendable q → (ring : Ring) (sent cancelled : ℕ)
+      → (isQueue g ≡ false → CircleAgrees (dedicated g) (shared g) (noteRequest l q b) ring)
       → (isQueue g ≡ true → ring ≡ noneHeld)
-      → TxHolds g (record { requested = l .requested; pending = others (isBuffer b) (l .pending); sent = sent; cancelled = cancelled }) (withTx s ring (withoutBit 32 (s .pending) b) u v) mem
-  clear-holds few b h ring sent cancelled u v f e = record {
-    bits = clear-bits (l .pending) (s .pending) (a .bits) (λ k past. none-past k (omega arith)) b (omega arith);
-    stands = each-those (λ x. not (isBuffer b x)) (InTxBuffer g mem) (l .pending) (a .stands);
+      → TxAgrees g (noteRequest l q b) (withTx s ring (withBit (s .pending) b) sent cancelled)
+      (splice mem (placeIn (txArea g) b) (elementOf g q))
+  filled-agrees room b inside clear q can ring sent cancelled f e = record {
+    buffers =
+        buffer-filled Request (txArea g) (elementOf g) (l .pending) (s .pending) mem (h .buffers) room
+        (acceptedIn l b q) inside clear (element-each g q);
+    sendable = each-snoc IsSendable (l .pending) (acceptedIn l b q) (h .sendable) can;
     fifo = f;
     queue = e;
+    balanced = request-balances Request l (h .balanced) q b;
   }
+
+  -- ---- one goes, sent or cancelled
+
+  pub cleared-agrees : txCount g ≤ 32 → (b : ℕ) → b < txCount g → (m : Book)
+      → m .pending ≡ others (isBuffer b) (l .pending) → RequestsBalanced m → (ring : Ring) (sent cancelled : ℕ)
+      → (isQueue g ≡ false → CircleAgrees (dedicated g) (shared g) m ring) → (isQueue g ≡ true → ring ≡ noneHeld)
+      → TxAgrees g m (withTx s ring (withoutBit 32 (s .pending) b) sent cancelled) mem
+  cleared-agrees few b inside m gone balanced ring sent cancelled f e = record {
+    buffers =
+        rw gone
+        (buffer-cleared Request (txArea g) (elementOf g) (l .pending) (s .pending) mem (h .buffers) 32 few b inside);
+    sendable = rw gone (each-those (λ x. not (isBuffer b x)) IsSendable (l .pending) (h .sendable));
+    fifo = f;
+    queue = e;
+    balanced = balanced;
+  }
+
+-- ---- fitness
+
+pub book-fits : BookFits
+book-fits l s mem h = go (isQueue (s .regs)) refl
+  where
+    few : s .pending < 2 ^ txCount (s .regs)
+    few = pending-below Request (txArea (s .regs)) (elementOf (s .regs)) l (s .pending) mem (h .buffers)
+
+    Held : ℕ → Type 0
+    Held size = (p : ℕ) → p < size → isSet (s .pending) (dedicated (s .regs) + p) ≡ held (s .shared) size p
+
+    go : (t : Bool) → isQueue (s .regs) ≡ t → TxFit s
+    go true y =
+        let size : 0 ≡ sharedRingSize (s .regs) = queue-ring (s .regs) (isQueue (s .regs)) refl y in
+        record {
+          shared =
+              subst (Fit (s .shared)) size
+              (subst (λ (q : Ring). Fit q 0) (sym (h .queue y)) (fit-none 0 (omega arith)));
+          pending = few;
+          heldBits = λ p k. absurd (omega (arith, size));
+        }
+    go false n =
+        let size : shared (s .regs) ≡ sharedRingSize (s .regs)
+        = fifo-ring (s .regs) (isQueue (s .regs)) refl n (shared (s .regs)) refl in
+        let c = h .fifo n in
+        record {
+          shared = subst (Fit (s .shared)) size (c .fit);
+          pending = few;
+          heldBits =
+              subst Held size
+              (λ p k.
+              sym (is-pending (s .regs) l s mem h (dedicated (s .regs) + p))
+              ∙ circle-held Request (dedicated (s .regs)) (shared (s .regs)) l (s .shared) c p k);
+        }
+
+-- ---- a world in step with the book
+
+module _ (l : Book) (w : World) (i : InStep l w) where
+  pub legal-in : Legal memoryWords (w .state .regs) (length (w .memory))
+  legal-in = sound-of (w .state) (w .recorded) (length (w .memory)) (i .fit) .legal
+
+  pub room-in : areaEnd (txArea (w .state .regs)) ≤ length (w .memory)
+  room-in = tx-roomy (w .state .regs) (length (w .memory)) legal-in .room
+
+  pub few-in : txCount (w .state .regs) ≤ 32
+  few-in = legal-in .counted .together
+
+  -- a call that is refused leaves all
+  pub leaves-all : (a : Area) → Leaves a w l w
+  leaves-all a = record {
+    agrees = i .agrees;
+    state = record { regs = refl; fifo0 = refl; fifo1 = refl; newdata = refl };
+    memory = only-none (areaRange a) (w .memory);
+  }
+
+  pub leaves-tx : LeavesTx w l w
+  leaves-tx = record { left = leaves-all (txArea (w .state .regs)); events = refl }

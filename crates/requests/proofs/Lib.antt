@@ -1,9 +1,5 @@
-pub mod Books
-pub mod Pending
-pub mod Circles
+pub mod Telling
 pub mod Holding
-pub mod Steps
 pub mod Requesting
 pub mod Choosing
 pub mod Reporting
-pub mod Fitting

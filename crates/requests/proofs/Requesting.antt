@@ -2,247 +2,245 @@
 -- Assumes nothing.
 use Prim.Native.Nat.{ℕ, _+_, _%_, _<_}
 use mathlib.Core.Path.{_≡_, refl, sym, ap, ap₂, _∙_}
-use mathlib.Core.Bool.{Bool, true, false, true≢false, not}
+use mathlib.Core.Bool.{Bool, true, false, true≢false, not, _&&_}
 use mathlib.Core.List.{List, [], _∷_}
 use native.Mathlib.Omega.{arith}
 use lib.Dec.{ltb, leb}
 use lib.ListN.{length}
-use borrow.Author.Tests.{eqb-false, ltb-true, leb-false, not-true}
-use Rattle.words.specs.Choice.{pick}
+use borrow.Author.Tests.{eqb-false, leb-false, not-true}
 use Rattle.words.specs.Bits.{bit, isSet, withBit, withoutBit}
+use Rattle.words.specs.Choice.{pick}
 use Rattle.words.specs.Least.{leastFrom}
-use Rattle.words.specs.Runs.{splice}
-use Rattle.words.specs.Rules.{Ruling, refuseIf, first, settle}
+use Rattle.words.specs.Rules.{first}
 use Rattle.words.proofs.Bits.{bit-lt}
 use Rattle.words.proofs.Choices.{pick-first, pick-second}
 use Rattle.words.proofs.Lowest.{least-passes, least-same}
-use Rattle.ring.specs.Rings.{putPlace, pushed}
+use Rattle.words.proofs.Ranges.{only-none}
+use Rattle.ring.specs.Rings.{noneHeld, putPlace, pushed}
 use Rattle.ring.specs.declared.Ring.{Ring}
 use Rattle.ring.proofs.Circle.{place-lt}
 use Rattle.ring.proofs.Holding.{put-not-held}
-use Rattle.frame.specs.Malformed.{malformed, WellFormed}
+use Rattle.frame.specs.Malformed.{malformed}
 use Rattle.frame.proofs.Forms.{well-formed}
-use Rattle.engine.specs.Answers.{answers, refuses, done}
-use Rattle.engine.specs.Areas.{dedicated, shared, txCount, isQueue, txArea, placeIn, Roomy}
-use Rattle.engine.specs.Fitness.{unfit}
-use Rattle.engine.specs.Flags.{raised}
-use Rattle.engine.specs.States.{withTx}
+use Rattle.registers.specs.Fields.{dedicated, shared, txCount, isQueue}
+use Rattle.element.specs.declared.TxHeader.{TxHeader}
+use Rattle.places.specs.Areas.{areaRange}
+use Rattle.places.proofs.Stores.{store-kept}
+use Rattle.areas.specs.Areas.{txArea}
+use Rattle.shape.specs.Calls.{answers}
+use Rattle.shape.specs.Histories.{noted}
+use Rattle.shape.specs.Refusals.{Refusals}
+use Rattle.shape.proofs.Calls.{call-cases}
+use Rattle.engine.specs.Buffers.{noTxBuffer, isPending, inSharedFifo}
+use Rattle.engine.specs.Calls.{World, Outcome, _when_, isUnfit}
 use Rattle.engine.specs.declared.state.State.{State}
-use Rattle.engine.specs.declared.state.Record.{Record}
-use Rattle.choosing.specs.Buffers.{isPending, inSharedFifo, noBuffer}
-use Rattle.sending.specs.Places.{requested, freePlace, sharedAfter}
-use Rattle.sending.specs.Requesting.{RequestOutcome, requestIn, notRequested, dedicatedRule, sharedRule}
-use Rattle.sending.specs.Cancelling.{CancelOutcome, cancelRule}
-use Rattle.ledger.specs.Histories.{noted}
-use Rattle.ledger.specs.Lists.{tally}
-use Rattle.requests.specs.Requests.{Request, Book, isBuffer, noteRequest, noteCancel, hasPending}
-use Rattle.requests.specs.Balance.{isShared}
+use Rattle.requesting.specs.Places.{queuePlace, fifoPlace, freePlace, freeBuffer, sharedAfter}
+use Rattle.requesting.specs.Requesting.{written, requests, dedicatedRefusals, sharedRefusals}
+use Rattle.requesting.specs.Cancelling.{cancels, cancelRefusals}
+use Rattle.requesting.proofs.Opens.{dedicated-open, shared-open, cancel-open}
+use Rattle.requesting.proofs.Places.{free-queue, free-room}
+use Rattle.books.specs.Lists.{tally}
+use Rattle.books.specs.Pending.{CircleAgrees}
+use Rattle.books.specs.Requests.{isShared, noteRequest, noteCancel, hasPending}
+use Rattle.books.proofs.Circles.{requested-before, requested-next, cancelled-before, circle-filled, circle-held}
+use Rattle.books.proofs.Requests.{cancel-balances}
+use Rattle.requests.specs.Requests.{Request, asked, Typed, Book}
 use Rattle.requests.specs.Expected.{expectDedicated, freeShared, expectShared, expectCancel}
-use Rattle.requests.specs.Standing.{elementOf, TxHolds, InStep, LeavesTx}
-use Rattle.requests.specs.Promises.{DedicatedTold, DedicatedLeaves, SharedTold, SharedLeaves, CancelTold, CancelLeaves}
-use Rattle.ledger.proofs.Lists.{length-those, those-apart}
-use Rattle.requests.proofs.Books.{balanced-request, balanced-cancel, ordered-request, ordered-cancel, outside}
-use Rattle.ledger.proofs.Stores.{store-kept, kept-refl}
-use Rattle.requests.proofs.Circles.{circling-same, held-told}
-use Rattle.requests.proofs.Holding.{pending-told, element-each, put-dedicated, put-queue, put-fifo, clear-holds}
-use Rattle.requests.proofs.Steps.{told-by, room-in, few-in, leaves-tx}
+use Rattle.requests.specs.Standing.{elementOf, TxAgrees, InStep, LeavesTx}
+use Rattle.requests.specs.Promises.{DedicatedTold, DedicatedLeaves, SharedTold, SharedLeaves}
+use Rattle.requests.specs.Promises.{CancelTold, CancelLeaves}
+use Rattle.requests.proofs.Telling.{told-by}
+use Rattle.requests.proofs.Holding.{element-each, is-pending, filled-agrees, cleared-agrees}
+use Rattle.requests.proofs.Holding.{room-in, few-in, leaves-tx}
 
 -- a bit that is not set is 0
 clear-bit : (w b : ℕ) → isSet w b ≡ false → bit w b ≡ 0
 clear-bit w b e = omega (arith, eqb-false (bit w b) 1 e, bit-lt w b)
 
--- a request that was put in a buffer: what it leaves, where the buffers hold it
-put-leaves : (l : Book) (s : State) (r : Record) (mem : List ℕ) → InStep l s r mem → (buffer : ℕ) → buffer < txCount (s .regs) → (q : Request) (ring : Ring)
-    → let next = splice mem (placeIn (txArea (s .regs)) buffer) (elementOf (s .regs) q) in
-    TxHolds (s .regs) (noteRequest l q buffer) (requested s ring buffer) next → LeavesTx s mem (noteRequest l q buffer) (requested s ring buffer) next
-put-leaves l s r mem i buffer h q ring holds = (
-  record {
-    agrees = record { holds = holds; balanced = balanced-request l (i .agrees .balanced) buffer q; ordered = ordered-request (s .regs) l (i .agrees .ordered) buffer q };
-    state = record { regs = refl; fifo0 = refl; fifo1 = refl; newdata = refl };
-    memory = store-kept (txArea (s .regs)) mem (room-in l s r mem i .room) buffer h (elementOf (s .regs) q) (element-each (s .regs) q);
-  },
-  refl,
-)
+module _ (l : Book) (w : World) (i : InStep l w) where
+  -- a request that was put in a buffer: what it leaves, where the shared part agrees
+  put-leaves : (buffer : ℕ) → buffer < txCount (w .state .regs) → isPending (w .state) buffer ≡ false
+      → (h : TxHeader) (d : List ℕ) → Typed (asked h d) → malformed (h .frame) (length d) ≡ false → (ring : Ring)
+      → (isQueue (w .state .regs) ≡ false
+      → CircleAgrees (dedicated (w .state .regs)) (shared (w .state .regs)) (noteRequest l (asked h d) buffer) ring)
+      → (isQueue (w .state .regs) ≡ true → ring ≡ noneHeld)
+      → LeavesTx w (noteRequest l (asked h d) buffer) (requests w ring buffer h d .world)
+  unfolding requests written
+  put-leaves buffer inside free h d typed formed ring fifo queue =
+      let s = w .state in
+      let g = s .regs in
+      let q = asked h d in
+      let room = room-in l w i in
+      record {
+        left = record {
+          agrees =
+              filled-agrees g l s (w .memory) (i .agrees) room buffer inside (clear-bit (s .pending) buffer free) q
+              (record { formed = well-formed (h .frame) (length d) formed; typed = typed }) ring
+              (withoutBit 32 (s .sent) buffer) (withoutBit 32 (s .cancelled) buffer) fifo queue;
+          state = record { regs = refl; fifo0 = refl; fifo1 = refl; newdata = refl };
+          memory = store-kept (txArea g) (w .memory) room buffer inside (elementOf g q) (element-each g q);
+        };
+        events = refl;
+      }
 
 -- ---- dedicated
 
 pub dedicated-told : DedicatedTold
-unfolding dedicatedRule expectDedicated
-dedicated-told l s r mem i buffer q =
-    told-by (λ (o : RequestOutcome). o .says) (requestIn s mem (s .shared) buffer (q .frame) (q .bytes) (q .marker) (q .wish)) (notRequested s mem) (unfit s r (length mem)) (after (isPending s buffer)) (i .fit)
-    ∙ ap (λ (t : Bool). settle (first (after t)) (answers buffer) refuses) (sym (pending-told (s .regs) l s mem (i .agrees .holds) buffer))
+unfolding dedicatedRefusals expectDedicated requests
+dedicated-told l w i buffer h d =
+    told-by w [] (requests w (w .state .shared) buffer h d) buffer [] (isUnfit w) (after (isPending (w .state) buffer))
+    (after (hasPending l buffer)) (i .fit)
+    (ap (λ (t : Bool). first (after t)) (sym (is-pending (w .state .regs) l (w .state) (w .memory) (i .agrees) buffer)))
+    (λ e. refl)
   where
-    after : Bool → List (Ruling ℕ)
-    after t = refuseIf (malformed (q .frame) (length (q .bytes))) 21 ∷ refuseIf (leb (dedicated (s .regs)) buffer) 23 ∷ refuseIf t 24 ∷ []
+    after : Bool → Refusals
+    after t = 21 when malformed (h .frame) (length d) ∷ 23 when leb (dedicated (w .state .regs)) buffer ∷ 24 when t ∷ []
 
 pub dedicated-leaves : DedicatedLeaves
-unfolding dedicatedRule
-dedicated-leaves l s r mem i buffer q typed =
-    go (unfit s r (length mem)) (malformed (q .frame) (length (q .bytes))) (leb (dedicated (s .regs)) buffer) (isPending s buffer) (i .fit) refl refl refl
-  where
-    Left : RequestOutcome → Type 0
-    Left o = LeavesTx s mem (noted l (noteRequest l q) (o .says)) (o .state) (o .memory)
-
-    go : (t u v w : Bool) → t ≡ false → malformed (q .frame) (length (q .bytes)) ≡ u → leb (dedicated (s .regs)) buffer ≡ v → isPending s buffer ≡ w
-        → Left (settle (first (refuseIf t 20 ∷ refuseIf u 21 ∷ refuseIf v 23 ∷ refuseIf w 24 ∷ [])) (requestIn s mem (s .shared) buffer (q .frame) (q .bytes) (q .marker) (q .wish)) (notRequested s mem))
-    go true u v w e m b p = absurd (true≢false e)
-    go false true v w e m b p = leaves-tx l s r mem i
-    go false false true w e m b p = leaves-tx l s r mem i
-    go false false false true e m b p = leaves-tx l s r mem i
-    go false false false false e m b p =
-        let h : buffer < dedicated (s .regs) = leb-false (dedicated (s .regs)) buffer b in
-        let k : buffer < txCount (s .regs) = omega arith in
-        put-leaves l s r mem i buffer k q (s .shared)
-        (put-dedicated (s .regs) l s mem (i .agrees .holds) (room-in l s r mem i) buffer k q (well-formed (q .frame) (length (q .bytes)) m) typed (clear-bit (s .pending) buffer p) h)
+unfolding requests
+dedicated-leaves l w i buffer h d typed =
+    call-cases w [] (dedicatedRefusals w buffer h (length d)) (requests w (w .state .shared) buffer h d)
+    (λ (o : Outcome ℕ). LeavesTx w (noted l (noteRequest l (asked h d)) (o .says)) (o .world))
+    (λ n. leaves-tx l w i)
+    (λ e.
+    let s = w .state in
+    let g = s .regs in
+    let o = dedicated-open w buffer h (length d) e in
+    put-leaves l w i buffer (omega (arith, o .number)) (o .free) h d typed (o .formed) (s .shared)
+    (λ f.
+    requested-before Request (dedicated g) (shared g) l (s .shared) (i .agrees .fifo f) (asked h d) buffer (o .number))
+    (i .agrees .queue))
 
 -- ---- shared
 
--- the two ways of a free place
-module _ (s : State) where
-  free-queue : isQueue (s .regs) ≡ true → freePlace s ≡ leastFrom (λ p. not (isPending s (dedicated (s .regs) + p))) 0 (shared (s .regs))
-  unfolding freePlace
-  free-queue e = pick-first _ (pick (ltb (s .shared .fill) (shared (s .regs))) (putPlace (s .shared) (shared (s .regs))) (shared (s .regs))) e
-
-  free-fifo : isQueue (s .regs) ≡ false → freePlace s ≡ pick (ltb (s .shared .fill) (shared (s .regs))) (putPlace (s .shared) (shared (s .regs))) (shared (s .regs))
-  unfolding freePlace
-  free-fifo e = pick-second (leastFrom (λ p. not (isPending s (dedicated (s .regs) + p))) 0 (shared (s .regs))) _ e
-
-  -- where the place is one, a FIFO is not full, and it is the put place
-  free-room : isQueue (s .regs) ≡ false → freePlace s < shared (s .regs) → (s .shared .fill < shared (s .regs)) × (freePlace s ≡ putPlace (s .shared) (shared (s .regs)))
-  free-room e h = go (ltb (s .shared .fill) (shared (s .regs))) refl
+module _ (l : Book) (s : State) (mem : List ℕ) (h : TxAgrees (s .regs) l s mem) where
+  -- the book has the same free place
+  free-told : freePlace s ≡ freeShared (s .regs) l
+  unfolding freePlace queuePlace fifoPlace freeShared
+  free-told = go (isQueue (s .regs)) refl
     where
-      go : (t : Bool) → ltb (s .shared .fill) (shared (s .regs)) ≡ t → (s .shared .fill < shared (s .regs)) × (freePlace s ≡ putPlace (s .shared) (shared (s .regs)))
-      go true y = (ltb-true (s .shared .fill) (shared (s .regs)) y, free-fifo e ∙ pick-first (putPlace (s .shared) (shared (s .regs))) (shared (s .regs)) y)
-      go false n = absurd (omega (arith, free-fifo e ∙ pick-second (putPlace (s .shared) (shared (s .regs))) (shared (s .regs)) n))
+      n : ℕ
+      n = shared (s .regs)
 
-  module _ (l : Book) (mem : List ℕ) (a : TxHolds (s .regs) l s mem) where
-    -- the book has the same free place
-    free-told : freePlace s ≡ freeShared (s .regs) l
-    unfolding freePlace freeShared
-    free-told = go (isQueue (s .regs)) refl
-      where
-        lowest : leastFrom (λ p. not (isPending s (dedicated (s .regs) + p))) 0 (shared (s .regs)) ≡ leastFrom (λ p. not (hasPending l (dedicated (s .regs) + p))) 0 (shared (s .regs))
-        lowest = least-same _ _ 0 (shared (s .regs)) (λ p h k. ap not (sym (pending-told (s .regs) l s mem a (dedicated (s .regs) + p))))
+      d : ℕ
+      d = dedicated (s .regs)
 
-        go : (t : Bool) → isQueue (s .regs) ≡ t
-            → pick t (leastFrom (λ p. not (isPending s (dedicated (s .regs) + p))) 0 (shared (s .regs)))
-            (pick (ltb (s .shared .fill) (shared (s .regs))) (putPlace (s .shared) (shared (s .regs))) (shared (s .regs)))
-            ≡ pick t (leastFrom (λ p. not (hasPending l (dedicated (s .regs) + p))) 0 (shared (s .regs)))
-            (pick (ltb (tally (isShared (s .regs)) (l .pending)) (shared (s .regs))) (tally (isShared (s .regs)) (l .requested) % shared (s .regs)) (shared (s .regs)))
-        go true e = lowest
-        go false e =
-            ap₂ (λ (n p : ℕ). pick (ltb n (shared (s .regs))) p (shared (s .regs))) (sym (a .fifo e .fill) ∙ length-those (isShared (s .regs)) (l .pending)) (a .fifo e .next)
+      go : (t : Bool) → isQueue (s .regs) ≡ t
+          → pick t (leastFrom (λ p. not (isPending s (dedicated (s .regs) + p))) 0 (shared (s .regs)))
+          (pick (ltb (s .shared .fill) (shared (s .regs))) (putPlace (s .shared) (shared (s .regs))) (shared (s .regs)))
+          ≡ pick t (leastFrom (λ p. not (hasPending l (dedicated (s .regs) + p))) 0 (shared (s .regs)))
+          (pick (ltb (tally (isShared (dedicated (s .regs))) (l .pending)) (shared (s .regs)))
+          (tally (isShared (dedicated (s .regs))) (l .requested) % shared (s .regs)) (shared (s .regs)))
+      go true e = least-same _ _ 0 n (λ p a b. ap not (sym (is-pending (s .regs) l s mem h (d + p))))
+      go false e =
+          ap₂ (λ (m p : ℕ). pick (ltb m n) p n) (circle-filled Request d n l (s .shared) (h .fifo e)) (h .fifo e .next)
 
-    -- the buffer at the free place is not pending
-    free-clear : freePlace s < shared (s .regs) → bit (s .pending) (dedicated (s .regs) + freePlace s) ≡ 0
-    free-clear h = go (isQueue (s .regs)) refl
-      where
-        go : (t : Bool) → isQueue (s .regs) ≡ t → bit (s .pending) (dedicated (s .regs) + freePlace s) ≡ 0
-        go true e =
-            let n = leastFrom (λ p. not (isPending s (dedicated (s .regs) + p))) 0 (shared (s .regs)) in
-            let same : freePlace s ≡ n = free-queue e in
-            ap (λ (p : ℕ). bit (s .pending) (dedicated (s .regs) + p)) same
-            ∙ clear-bit (s .pending) (dedicated (s .regs) + n) (not-true _ (least-passes (λ p. not (isPending s (dedicated (s .regs) + p))) 0 (shared (s .regs)) (omega arith)))
-        go false e =
-            let put = putPlace (s .shared) (shared (s .regs)) in
-            let f = free-room e h in
-            let c = a .fifo e in
-            ap (λ (p : ℕ). bit (s .pending) (dedicated (s .regs) + p)) (f .1)
-            ∙ clear-bit (s .pending) (dedicated (s .regs) + put)
-            (sym (pending-told (s .regs) l s mem a (dedicated (s .regs) + put))
-            ∙ held-told (s .regs) l (s .shared) c put (place-lt (s .shared) (shared (s .regs)) (s .shared .fill) (omega arith))
-            ∙ put-not-held (s .shared) (shared (s .regs)) (c .fit) (f .0))
+  -- the buffer at the free place is not pending
+  free-clear : freePlace s < shared (s .regs) → isPending s (freeBuffer s) ≡ false
+  free-clear k = go (isQueue (s .regs)) refl
+    where
+      n : ℕ
+      n = shared (s .regs)
+
+      d : ℕ
+      d = dedicated (s .regs)
+
+      go : (t : Bool) → isQueue (s .regs) ≡ t → isPending s (freeBuffer s) ≡ false
+      go true e =
+          let at = free-queue s e in
+          ap (λ (p : ℕ). isPending s (d + p)) at
+          ∙ not-true _ (least-passes (λ p. not (isPending s (d + p))) 0 n (omega (arith, at)))
+      go false e =
+          let f = free-room s e k in
+          let c = h .fifo e in
+          let put = putPlace (s .shared) n in
+          ap (λ (p : ℕ). isPending s (d + p)) (f .1)
+          ∙ sym (is-pending (s .regs) l s mem h (d + put))
+          ∙ circle-held Request d n l (s .shared) c put (place-lt (s .shared) n (s .shared .fill) (omega (arith, f .0)))
+          ∙ put-not-held (s .shared) n (c .fit) (f .0)
 
 pub shared-told : SharedTold
-unfolding sharedRule expectShared
-shared-told l s r mem i q =
-    told-by (λ (o : RequestOutcome). o .says) (requestIn s mem (sharedAfter s) (dedicated (s .regs) + freePlace s) (q .frame) (q .bytes) (q .marker) (q .wish)) (notRequested s mem) (unfit s r (length mem)) (after (freePlace s)) (i .fit)
-    ∙ ap (λ (p : ℕ). settle (first (after p)) (answers (dedicated (s .regs) + p)) refuses) (free-told s l mem (i .agrees .holds))
+unfolding sharedRefusals expectShared requests
+shared-told l w i h d =
+    let s = w .state in
+    let free = free-told l s (w .memory) (i .agrees) in
+    told-by w [] (requests w (sharedAfter s) (freeBuffer s) h d) (dedicated (s .regs) + freeShared (s .regs) l) []
+    (isUnfit w) (after (freePlace s)) (after (freeShared (s .regs) l)) (i .fit)
+    (ap (λ (p : ℕ). first (after p)) free)
+    (λ e. ap (λ (p : ℕ). record { says = answers (dedicated (s .regs) + p); output = [] }) free)
   where
-    after : ℕ → List (Ruling ℕ)
-    after p = refuseIf (malformed (q .frame) (length (q .bytes))) 21 ∷ refuseIf (leb (shared (s .regs)) p) 25 ∷ []
+    after : ℕ → Refusals
+    after p = 21 when malformed (h .frame) (length d) ∷ 25 when leb (shared (w .state .regs)) p ∷ []
 
 pub shared-leaves : SharedLeaves
-unfolding sharedRule
-shared-leaves l s r mem i q typed =
-    go (unfit s r (length mem)) (malformed (q .frame) (length (q .bytes))) (leb (shared (s .regs)) (freePlace s)) (i .fit) refl refl
+unfolding requests
+shared-leaves l w i h d typed =
+    call-cases w [] (sharedRefusals w h (length d)) (requests w (sharedAfter (w .state)) (freeBuffer (w .state)) h d)
+    (λ (o : Outcome ℕ). LeavesTx w (noted l (noteRequest l (asked h d)) (o .says)) (o .world))
+    (λ n. leaves-tx l w i)
+    (λ e.
+    let o = shared-open w h (length d) e in
+    put-leaves l w i (freeBuffer (w .state)) (omega (arith, o .number))
+    (free-clear l (w .state) (w .memory) (i .agrees) (o .number)) h d typed (o .formed) (sharedAfter (w .state))
+    (circle (o .number)) queue)
   where
-    buffer : ℕ
-    buffer = dedicated (s .regs) + freePlace s
+    s : State
+    s = w .state
 
-    Left : RequestOutcome → Type 0
-    Left o = LeavesTx s mem (noted l (noteRequest l q) (o .says)) (o .state) (o .memory)
+    queue : isQueue (w .state .regs) ≡ true → sharedAfter (w .state) ≡ noneHeld
+    queue y = pick-first (s .shared) (pushed (s .shared)) y ∙ i .agrees .queue y
 
-    accepted : malformed (q .frame) (length (q .bytes)) ≡ false → freePlace s < shared (s .regs) → Left (requestIn s mem (sharedAfter s) buffer (q .frame) (q .bytes) (q .marker) (q .wish))
-    accepted m h = put-leaves l s r mem i buffer k q (sharedAfter s) (stored (isQueue (s .regs)) refl)
-      where
-        k : buffer < txCount (s .regs)
-        k = omega arith
-
-        room : Roomy (txArea (s .regs)) (length mem)
-        room = room-in l s r mem i
-
-        formed : WellFormed (q .frame) (length (q .bytes))
-        formed = well-formed (q .frame) (length (q .bytes)) m
-
-        clear : bit (s .pending) buffer ≡ 0
-        clear = free-clear s l mem (i .agrees .holds) h
-
-        stored : (t : Bool) → isQueue (s .regs) ≡ t
-            → TxHolds (s .regs) (noteRequest l q buffer) (requested s (pick t (s .shared) (pushed (s .shared))) buffer) (splice mem (placeIn (txArea (s .regs)) buffer) (elementOf (s .regs) q))
-        stored true y = put-queue (s .regs) l s mem (i .agrees .holds) room buffer k q formed typed clear y
-        stored false n =
-            let free = free-room s n h in
-            put-fifo (s .regs) l s mem (i .agrees .holds) room buffer k q formed typed clear n (free .0) (ap (λ (x : ℕ). dedicated (s .regs) + x) (free .1))
-
-    go : (t u v : Bool) → t ≡ false → malformed (q .frame) (length (q .bytes)) ≡ u → leb (shared (s .regs)) (freePlace s) ≡ v
-        → Left (settle (first (refuseIf t 20 ∷ refuseIf u 21 ∷ refuseIf v 25 ∷ [])) (requestIn s mem (sharedAfter s) (dedicated (s .regs) + freePlace s) (q .frame) (q .bytes) (q .marker) (q .wish)) (notRequested s mem))
-    go true u v e m b = absurd (true≢false e)
-    go false true v e m b = leaves-tx l s r mem i
-    go false false true e m b = leaves-tx l s r mem i
-    go false false false e m b = accepted m (leb-false (shared (s .regs)) (freePlace s) b)
+    circle : freePlace (w .state) < shared (w .state .regs) → isQueue (w .state .regs) ≡ false
+        → CircleAgrees (dedicated (w .state .regs)) (shared (w .state .regs))
+        (noteRequest l (asked h d) (freeBuffer (w .state))) (sharedAfter (w .state))
+    circle k n =
+        let g = s .regs in
+        let f = free-room s n k in
+        rw (pick-second (s .shared) (pushed (s .shared)) n)
+        (requested-next Request (dedicated g) (shared g) l (s .shared) (i .agrees .fifo n) (asked h d) (freeBuffer s)
+        (f .0) (ap (λ (p : ℕ). dedicated g + p) (f .1)))
 
 -- ---- cancel
 
 pub cancel-told : CancelTold
-unfolding cancelRule expectCancel
-cancel-told l s r mem i buffer =
-    told-by (λ (o : CancelOutcome). o .says) (record { says = done; state = withTx s (s .shared) (withoutBit 32 (s .pending) buffer) (s .sent) (withBit (s .cancelled) buffer); status = raised r 10 }) (λ n. record { says = refuses n; state = s; status = r }) (unfit s r (length mem)) (after (isPending s buffer)) (i .fit)
-    ∙ ap (λ (t : Bool). settle (first (after t)) done refuses) (sym (pending-told (s .regs) l s mem (i .agrees .holds) buffer))
+unfolding cancelRefusals expectCancel
+cancel-told l w i buffer =
+    told-by w [] (cancels w buffer) tt [] (isUnfit w) (after (isPending (w .state) buffer))
+    (after (hasPending l buffer))
+    (i .fit)
+    (ap (λ (t : Bool). first (after t)) (sym (is-pending (w .state .regs) l (w .state) (w .memory) (i .agrees) buffer)))
+    (λ e. refl)
   where
-    after : Bool → List (Ruling ℕ)
-    after t = refuseIf (noBuffer s buffer) 23 ∷ refuseIf (inSharedFifo s buffer) 26 ∷ refuseIf (not t) 27 ∷ []
+    after : Bool → Refusals
+    after t = 23 when noTxBuffer (w .state) buffer ∷ 26 when inSharedFifo (w .state) buffer ∷ 27 when not t ∷ []
 
 pub cancel-leaves : CancelLeaves
-unfolding cancelRule
-cancel-leaves l s r mem i buffer =
-    go (unfit s r (length mem)) (noBuffer s buffer) (inSharedFifo s buffer) (not (isPending s buffer)) (i .fit) refl refl
+cancel-leaves l w i buffer =
+    call-cases w [] (cancelRefusals w buffer) (cancels w buffer)
+    (λ (o : Outcome (Unit {0})). LeavesTx w (noted l (λ t. noteCancel l buffer) (o .says)) (o .world))
+    (λ n. leaves-tx l w i)
+    (λ e.
+    let s = w .state in
+    let g = s .regs in
+    let o = cancel-open w buffer e in
+    record {
+      left = record {
+        agrees =
+            cleared-agrees g l s (w .memory) (i .agrees) (few-in l w i) buffer (o .number) (noteCancel l buffer) refl
+            (cancel-balances Request l (i .agrees .balanced) buffer) (s .shared) (s .sent)
+            (withBit (s .cancelled) buffer)
+            (λ f. cancelled-before Request (dedicated g) (shared g) l (s .shared) (i .agrees .fifo f) buffer
+            (before (leb (dedicated g) buffer) refl (isQueue g) (o .apart) f))
+            (i .agrees .queue);
+        state = record { regs = refl; fifo0 = refl; fifo1 = refl; newdata = refl };
+        memory = only-none (areaRange (txArea g)) (w .memory);
+      };
+      events = refl;
+    })
   where
-    Left : CancelOutcome → Type 0
-    Left o = LeavesTx s mem (noted l (λ t. noteCancel l buffer) (o .says)) (o .state) mem
-
-    go : (t u v w : Bool) → t ≡ false → noBuffer s buffer ≡ u → inSharedFifo s buffer ≡ v
-        → Left (settle (first (refuseIf t 20 ∷ refuseIf u 23 ∷ refuseIf v 26 ∷ refuseIf w 27 ∷ []))
-        (record { says = done; state = withTx s (s .shared) (withoutBit 32 (s .pending) buffer) (s .sent) (withBit (s .cancelled) buffer); status = raised r 10 })
-        (λ n. record { says = refuses n; state = s; status = r }))
-    go true u v w e b f = absurd (true≢false e)
-    go false true v w e b f = leaves-tx l s r mem i
-    go false false true w e b f = leaves-tx l s r mem i
-    go false false false true e b f = leaves-tx l s r mem i
-    go false false false false e b f =
-        let g = s .regs in
-        let a = i .agrees in (
-          record {
-            agrees = record {
-              holds =
-                  clear-holds g l s mem (a .holds) (few-in l s r mem i) buffer (leb-false (txCount g) buffer b) (s .shared) (l .sent) (noteCancel l buffer .cancelled) (s .sent) (withBit (s .cancelled) buffer)
-                  (λ n. circling-same g l (s .shared) (a .holds .fifo n) (noteCancel l buffer) (those-apart (isShared g) (isBuffer buffer) (outside g buffer f n) (l .pending)) refl)
-                  (a .holds .queue);
-              balanced = balanced-cancel l (a .balanced) buffer;
-              ordered = ordered-cancel g l (a .ordered) buffer f;
-            };
-            state = record { regs = refl; fifo0 = refl; fifo1 = refl; newdata = refl };
-            memory = kept-refl (txArea g) mem;
-          },
-          refl,
-        )
+    -- in FIFO mode a buffer outside the FIFO is a dedicated one
+    before : (t : Bool) → leb (dedicated (w .state .regs)) buffer ≡ t → (u : Bool) → (t && not u) ≡ false → u ≡ false
+        → buffer < dedicated (w .state .regs)
+    before true e true n f = absurd (true≢false f)
+    before true e false n f = absurd (true≢false n)
+    before false e u n f = leb-false (dedicated (w .state .regs)) buffer e

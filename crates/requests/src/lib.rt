@@ -1,1 +1,1 @@
-// The history's own book of the transmit requests: definitions and laws, no code.
+// M_CAN's book of transmit requests: definitions and laws, no code.
