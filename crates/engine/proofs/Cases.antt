@@ -5,10 +5,10 @@ use mathlib.Core.Path.{_≡_, sym, _∙_}
 use mathlib.Core.Bool.{Bool, true, false, not, _||_}
 use native.Mathlib.Omega.{arith}
 use Rattle.words.specs.Choice.{pick}
-use Rattle.words.specs.Fields.{bits}
 use Rattle.words.proofs.Choices.{pick-first, pick-second}
 use Rattle.ring.specs.Rings.{fits}
 use Rattle.registers.specs.Fields.{fifoWord, eventSize, shared, isQueue}
+use Rattle.registers.specs.Kinds.{field, rxfcCount}
 use Rattle.registers.specs.declared.Registers.{Registers}
 use Rattle.engine.specs.Fitness.{sharedRingSize, ringsUnfit}
 use Rattle.engine.specs.Needs.{SharedFits, SharedCan}
@@ -38,8 +38,8 @@ can-look s size p c e h = record { ring = c .ring; bit = omega (arith, shared-mo
 
 -- ---- the four rings
 
-module _ (s : State) (n0 n1 n2 n3 : ℕ) (e0 : n0 ≡ bits 22 16 (s .regs .rxf0c .word))
-    (e1 : n1 ≡ bits 22 16 (s .regs .rxf1c .word)) (e2 : n2 ≡ eventSize (s .regs)) (e3 : n3 ≡ sharedRingSize (s .regs))
+module _ (s : State) (n0 n1 n2 n3 : ℕ) (e0 : n0 ≡ field rxfcCount (s .regs .rxf0c .word))
+    (e1 : n1 ≡ field rxfcCount (s .regs .rxf1c .word)) (e2 : n2 ≡ eventSize (s .regs)) (e3 : n3 ≡ sharedRingSize (s .regs))
   where
     pub rings-tested : (a b c d : Bool) → a ≡ fits (s .fifo0) n0 → b ≡ fits (s .fifo1) n1 → c ≡ fits (s .events) n2
         → d ≡ fits (s .shared) n3

@@ -10,7 +10,7 @@ use lib.Dec.{eqb}
 use lib.Pow.{pow-pos}
 use Rattle.words.specs.Bits.{isSet}
 use Rattle.words.specs.Choice.{pick}
-use Rattle.words.specs.Fields.{bits, onlyNamed}
+use Rattle.words.specs.Fields.{onlyNamed}
 use Rattle.words.specs.Least.{leastFrom}
 use Rattle.words.specs.Rules.{Ruling, isAllowed}
 use Rattle.words.proofs.Choices.{or-neither}
@@ -20,6 +20,7 @@ use Rattle.words.proofs.Unnamed.{unnamed, agrees, below32}
 use Rattle.ring.specs.Rings.{Fit, fits, held}
 use Rattle.ring.specs.declared.Ring.{Ring}
 use Rattle.ring.proofs.Fitness.{fit-of-fits, fits-of-fit}
+use Rattle.registers.specs.Kinds.{field, rxfcCount}
 use Rattle.registers.specs.declared.Registers.{Registers}
 use Rattle.layout.specs.Sections.{memoryWords}
 use Rattle.shape.specs.Refusals.{Refusal}
@@ -201,7 +202,7 @@ unfolding fifoRing fifoWord
 ring-fits s words fifo h = go (eqb fifo 0)
   where
     go : (b : Bool)
-        → Fit (pick b (s .fifo0) (s .fifo1)) (bits 22 16 (pick b (s .regs .rxf0c .word) (s .regs .rxf1c .word)))
+        → Fit (pick b (s .fifo0) (s .fifo1)) (field rxfcCount (pick b (s .regs .rxf0c .word) (s .regs .rxf1c .word)))
     go true = h .fifo0
     go false = h .fifo1
 

@@ -6,13 +6,13 @@ use mathlib.Core.Bool.{Bool, true, false}
 use mathlib.Core.List.{List, []}
 use lib.Count.{ones}
 use lib.ListN.{length}
-use Rattle.words.specs.Fields.{bits}
 use Rattle.words.specs.Rules.{allowed, refused, first}
 use Rattle.ring.specs.Rings.{Fit}
 use Rattle.shape.specs.Calls.{refuses, answers, done, settles, leaves, tells, call}
 use Rattle.shape.proofs.Calls.{call-refused, call-done}
 use Rattle.layout.specs.Verdict.{plain}
 use Rattle.registers.specs.Fields.{fifoWord, eventSize}
+use Rattle.registers.specs.Kinds.{field, rxfcCount}
 use Rattle.engine.specs.Calls.{World, world, Effect}
 use Rattle.engine.specs.Fitness.{sharedRingSize, Sound, unfit}
 use Rattle.engine.specs.Flags.{cleared}
@@ -25,8 +25,8 @@ use Rattle.overview.specs.declared.RingStatus.{RingStatus}
 
 -- ---- the four rings
 
-module _ (s : State) (n0 n1 n2 n3 : ℕ) (e0 : n0 ≡ bits 22 16 (s .regs .rxf0c .word))
-    (e1 : n1 ≡ bits 22 16 (s .regs .rxf1c .word))
+module _ (s : State) (n0 n1 n2 n3 : ℕ) (e0 : n0 ≡ field rxfcCount (s .regs .rxf0c .word))
+    (e1 : n1 ≡ field rxfcCount (s .regs .rxf1c .word))
     (e2 : n2 ≡ eventSize (s .regs)) (e3 : n3 ≡ sharedRingSize (s .regs)) where
   pub status-told : (t0 t1 t2 t3 : RingStatus) (m : ℕ) → t0 ≡ ringStatus (s .fifo0) n0
       → t1 ≡ ringStatus (s .fifo1) n1 → t2 ≡ ringStatus (s .events) n2 → t3 ≡ ringStatus (s .shared) n3
@@ -36,11 +36,11 @@ module _ (s : State) (n0 n1 n2 n3 : ℕ) (e0 : n0 ≡ bits 22 16 (s .regs .rxf0c
   status-told t0 t1 t2 t3 m p q t u z = simp (p, q, t, u, z, e0, e1, e2, e3)
 
 module _ (s : State) (words n : ℕ) (h : Sound s words) where
-  pub fit-fifo0 : n ≡ bits 22 16 (s .regs .rxf0c .word) → Fit (s .fifo0) n
+  pub fit-fifo0 : n ≡ field rxfcCount (s .regs .rxf0c .word) → Fit (s .fifo0) n
   unfolding fifoWord
   fit-fifo0 e = rw e (h .fifo0)
 
-  pub fit-fifo1 : n ≡ bits 22 16 (s .regs .rxf1c .word) → Fit (s .fifo1) n
+  pub fit-fifo1 : n ≡ field rxfcCount (s .regs .rxf1c .word) → Fit (s .fifo1) n
   unfolding fifoWord
   fit-fifo1 e = rw e (h .fifo1)
 
