@@ -4,3 +4,5 @@ pub mod Forms
 pub mod Ranks
 pub mod Order
 pub mod BusOrder
+pub mod AsSent
+pub mod ByDlc

@@ -5,3 +5,4 @@ pub mod Malformed
 pub mod Rank
 pub mod Arbitration
 pub mod Sent
+pub mod Promises
