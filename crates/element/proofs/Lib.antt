@@ -6,3 +6,4 @@ pub mod Fitness
 pub mod WordsBack
 pub mod OwnWords
 pub mod RoundTrip
+pub mod TableOfBits

@@ -17,7 +17,7 @@ use Rattle.element.specs.declared.Arrival.{Arrival}
 use Rattle.element.specs.declared.TxHeader.{TxHeader}
 use Rattle.element.proofs.Packing.{id-lt, id-long, id-short}
 
-one-le : (b : Bool) → pick b 1 0 ≤ 1
+pub one-le : (b : Bool) → pick b 1 0 ≤ 1
 one-le true = omega arith
 one-le false = omega arith
 
@@ -27,7 +27,7 @@ set-is w n false e = simp e
 
 module _ (f : Frame) (h : InFields f) where
   -- word 0 by its four fields
-  id-back : (x : Bool) → f .xtd ≡ x → idIn x (word0 f) ≡ f .id
+  pub id-back : (x : Bool) → f .xtd ≡ x → idIn x (word0 f) ≡ f .id
   unfolding word0
   id-back true e =
       let s = id-long (f .xtd) (f .id) e in
@@ -36,25 +36,28 @@ module _ (f : Frame) (h : InFields f) where
       let s = id-short (f .xtd) (f .id) e in
       omega (arith, one-le (f .esi), one-le (f .xtd), one-le (f .rtr), id-lt (f .xtd) (f .id) (h .id))
 
-  esi-back : isSet (word0 f) 31 ≡ f .esi
+  pub esi-bit : bits 31 31 (word0 f) ≡ pick (f .esi) 1 0
   unfolding word0
-  esi-back =
-      set-is (word0 f) 31 (f .esi)
-      (omega (arith, one-le (f .esi), one-le (f .xtd), one-le (f .rtr), id-lt (f .xtd) (f .id) (h .id)))
+  esi-bit = omega (arith, one-le (f .esi), one-le (f .xtd), one-le (f .rtr), id-lt (f .xtd) (f .id) (h .id))
+
+  esi-back : isSet (word0 f) 31 ≡ f .esi
+  esi-back = set-is (word0 f) 31 (f .esi) esi-bit
+
+  pub xtd-bit : bits 30 30 (word0 f) ≡ pick (f .xtd) 1 0
+  unfolding word0
+  xtd-bit = omega (arith, one-le (f .esi), one-le (f .xtd), one-le (f .rtr), id-lt (f .xtd) (f .id) (h .id))
 
   xtd-back : isSet (word0 f) 30 ≡ f .xtd
+  xtd-back = set-is (word0 f) 30 (f .xtd) xtd-bit
+
+  pub rtr-bit : bits 29 29 (word0 f) ≡ pick (f .rtr) 1 0
   unfolding word0
-  xtd-back =
-      set-is (word0 f) 30 (f .xtd)
-      (omega (arith, one-le (f .esi), one-le (f .xtd), one-le (f .rtr), id-lt (f .xtd) (f .id) (h .id)))
+  rtr-bit = omega (arith, one-le (f .esi), one-le (f .xtd), one-le (f .rtr), id-lt (f .xtd) (f .id) (h .id))
 
   rtr-back : isSet (word0 f) 29 ≡ f .rtr
-  unfolding word0
-  rtr-back =
-      set-is (word0 f) 29 (f .rtr)
-      (omega (arith, one-le (f .esi), one-le (f .xtd), one-le (f .rtr), id-lt (f .xtd) (f .id) (h .id)))
+  rtr-back = set-is (word0 f) 29 (f .rtr) rtr-bit
 
-  form-lt : formBits f < 2 ^ 22
+  pub form-lt : formBits f < 2 ^ 22
   unfolding formBits
   form-lt = omega (arith, one-le (f .fdf), one-le (f .brs), h .dlc)
 
@@ -64,22 +67,28 @@ module _ (f : Frame) (h : InFields f) where
 
   -- a word 1 of any kind: its own fields above and below FDF, BRS and DLC
   module _ (top low second : ℕ) (l : low < 2 ^ 16) (s : second ≡ top * 2 ^ 22 + formBits f + low) where
-    fdf-back : isSet second 21 ≡ f .fdf
+    pub fdf-bit : bits 21 21 second ≡ pick (f .fdf) 1 0
     unfolding formBits
-    fdf-back = set-is second 21 (f .fdf) (omega (arith, one-le (f .fdf), one-le (f .brs), h .dlc))
+    fdf-bit = omega (arith, one-le (f .fdf), one-le (f .brs), h .dlc)
+
+    fdf-back : isSet second 21 ≡ f .fdf
+    fdf-back = set-is second 21 (f .fdf) fdf-bit
+
+    pub brs-bit : bits 20 20 second ≡ pick (f .brs) 1 0
+    unfolding formBits
+    brs-bit = omega (arith, one-le (f .fdf), one-le (f .brs), h .dlc)
 
     brs-back : isSet second 20 ≡ f .brs
-    unfolding formBits
-    brs-back = set-is second 20 (f .brs) (omega (arith, one-le (f .fdf), one-le (f .brs), h .dlc))
+    brs-back = set-is second 20 (f .brs) brs-bit
 
-    dlc-back : bits 19 16 second ≡ f .dlc
+    pub dlc-back : bits 19 16 second ≡ f .dlc
     unfolding formBits
     dlc-back = omega (arith, one-le (f .fdf), one-le (f .brs), h .dlc)
 
-    top-back : second / 2 ^ 22 ≡ top
+    pub top-back : second / 2 ^ 22 ≡ top
     top-back = omega (arith, form-lt, form-even)
 
-    low-back : bits 15 0 second ≡ low
+    pub low-back : bits 15 0 second ≡ low
     low-back = omega (arith, form-even)
 
     frame-back : frameIn (word0 f) second ≡ f
@@ -88,20 +97,23 @@ module _ (f : Frame) (h : InFields f) where
 
 -- an Rx element: ANMF and the index stand above, the timestamp below
 module _ (a : Arrival) (h : InFields (a .frame)) (i : indexOf (a .matched) < 128) (t : a .time < 2 ^ 16) where
-  abbrev rxTop : ℕ
+  abbrev pub rxTop : ℕ
   rxTop = pick (anmfOf (a .matched)) 1 0 * 2 ^ 9 + indexOf (a .matched) * 2 ^ 2
 
-  rx-split : rxWord1 a ≡ rxTop * 2 ^ 22 + formBits (a .frame) + a .time
+  pub rx-split : rxWord1 a ≡ rxTop * 2 ^ 22 + formBits (a .frame) + a .time
   unfolding rxWord1
   rx-split = omega arith
 
-  rx-top : rxWord1 a / 2 ^ 22 ≡ rxTop
+  pub rx-top : rxWord1 a / 2 ^ 22 ≡ rxTop
   rx-top = top-back (a .frame) h rxTop (a .time) (rxWord1 a) t rx-split
 
-  anmf-back : isSet (rxWord1 a) 31 ≡ anmfOf (a .matched)
-  anmf-back = set-is (rxWord1 a) 31 (anmfOf (a .matched)) (omega (arith, rx-top, one-le (anmfOf (a .matched))))
+  pub anmf-bit : bits 31 31 (rxWord1 a) ≡ pick (anmfOf (a .matched)) 1 0
+  anmf-bit = omega (arith, rx-top, one-le (anmfOf (a .matched)))
 
-  index-back : bits 30 24 (rxWord1 a) ≡ indexOf (a .matched)
+  anmf-back : isSet (rxWord1 a) 31 ≡ anmfOf (a .matched)
+  anmf-back = set-is (rxWord1 a) 31 (anmfOf (a .matched)) anmf-bit
+
+  pub index-back : bits 30 24 (rxWord1 a) ≡ indexOf (a .matched)
   index-back = omega (arith, rx-top, one-le (anmfOf (a .matched)))
 
   pub rx-header-back : rxHeaderIn (word0 (a .frame)) (rxWord1 a) ≡ arrivalHeader a
@@ -116,21 +128,24 @@ module _ (a : Arrival) (h : InFields (a .frame)) (i : indexOf (a .matched) < 128
 
 -- a Tx element: the marker and the wish stand above, nothing below
 module _ (x : TxHeader) (h : InFields (x .frame)) (k : x .marker < 256) where
-  abbrev txTop : ℕ
+  abbrev pub txTop : ℕ
   txTop = x .marker * 2 ^ 2 + pick (x .wish) 1 0 * 2
 
-  tx-split : txWord1 x ≡ txTop * 2 ^ 22 + formBits (x .frame) + 0
+  pub tx-split : txWord1 x ≡ txTop * 2 ^ 22 + formBits (x .frame) + 0
   unfolding txWord1
   tx-split = omega arith
 
-  tx-top : txWord1 x / 2 ^ 22 ≡ txTop
+  pub tx-top : txWord1 x / 2 ^ 22 ≡ txTop
   tx-top = top-back (x .frame) h txTop 0 (txWord1 x) (omega arith) tx-split
 
-  tx-marker-back : markerIn (txWord1 x) ≡ x .marker
+  pub tx-marker-back : markerIn (txWord1 x) ≡ x .marker
   tx-marker-back = omega (arith, tx-top, one-le (x .wish))
 
+  pub wish-bit : bits 23 23 (txWord1 x) ≡ pick (x .wish) 1 0
+  wish-bit = omega (arith, tx-top, one-le (x .wish))
+
   wish-back : isSet (txWord1 x) 23 ≡ x .wish
-  wish-back = set-is (txWord1 x) 23 (x .wish) (omega (arith, tx-top, one-le (x .wish)))
+  wish-back = set-is (txWord1 x) 23 (x .wish) wish-bit
 
   pub tx-header-back : txHeaderIn (word0 (x .frame)) (txWord1 x) ≡ x
   unfolding txHeaderIn
@@ -139,20 +154,20 @@ module _ (x : TxHeader) (h : InFields (x .frame)) (k : x .marker < 256) where
 
 -- an event: the marker and the type stand above, the timestamp below
 module _ (f : Frame) (h : InFields f) (marker time : ℕ) (k : marker < 256) (t : time < 2 ^ 16) where
-  abbrev eventTop : ℕ
+  abbrev pub eventTop : ℕ
   eventTop = marker * 2 ^ 2 + 1
 
-  event-split : eventWord1 marker f time ≡ eventTop * 2 ^ 22 + formBits f + time
+  pub event-split : eventWord1 marker f time ≡ eventTop * 2 ^ 22 + formBits f + time
   unfolding eventWord1
   event-split = omega arith
 
-  event-top : eventWord1 marker f time / 2 ^ 22 ≡ eventTop
+  pub event-top : eventWord1 marker f time / 2 ^ 22 ≡ eventTop
   event-top = top-back f h eventTop time (eventWord1 marker f time) t event-split
 
-  event-marker-back : markerIn (eventWord1 marker f time) ≡ marker
+  pub event-marker-back : markerIn (eventWord1 marker f time) ≡ marker
   event-marker-back = omega (arith, event-top)
 
-  kind-back : bits 23 22 (eventWord1 marker f time) ≡ 1
+  pub kind-back : bits 23 22 (eventWord1 marker f time) ≡ 1
   kind-back = omega (arith, event-top)
 
   pub event-header-back : eventHeaderIn (word0 f) (eventWord1 marker f time)
