@@ -7,3 +7,4 @@ pub mod ActionByAction
 pub mod OwnSection
 pub mod Bounds
 pub mod Answers
+pub mod ByGfc

@@ -1,9 +1,10 @@
 -- What is promised of the search and of where a frame goes (demand 2): statements only.
-use Prim.Native.Nat.{ℕ, _≤_, _<_, min}
+use Prim.Native.Nat.{ℕ, _+_, _*_, _≤_, _<_, min}
 use mathlib.Core.Path.{_≡_}
 use mathlib.Core.Bool.{Bool, true, false, _&&_}
 use mathlib.Core.List.{List}
 use mathlib.Core.Logic.{_↔_, _⊎_}
+use lib.ListN.{getD}
 use Rattle.words.specs.Fields.{bits}
 use Rattle.words.specs.Bits.{bit}
 use Rattle.words.specs.Ranges.{SameIn}
@@ -101,6 +102,55 @@ pub record DestinationTells (g : Registers) (mem : List ℕ) (f : Frame) (newdat
 
 abbrev pub DestinationIsByAction : Type 0
 DestinationIsByAction = (g : Registers) (mem : List ℕ) (f : Frame) (newdata : ℕ) → DestinationTells g mem f newdata
+
+-- the four fields of GFC, by kind and bit. A remote frame is out: RRFS is bit 1, of 11 bits, and RRFE bit 0, of 29
+abbrev pub RemoteIsOut : Registers → Frame → Type 0
+RemoteIsOut g f =
+    (f .rtr ≡ true)
+    × (((f .xtd ≡ false) × (bit (g .gfc .word) 1 ≡ 1)) ⊎ ((f .xtd ≡ true) × (bit (g .gfc .word) 0 ≡ 1)))
+
+-- d is where a frame goes. No element matches: ANFS is bits 5:4, of 11 bits, and ANFE bits 3:2, of 29
+pub record GfcTells (g : Registers) (mem : List ℕ) (f : Frame) (newdata : ℕ) (d : Goes) : Type 0 where
+  pub remote : (d ≡ discarded (reason Remote) Nothing) ↔ RemoteIsOut g f
+  pub anfs : (RemoteIsOut g f → ⊥) → f .xtd ≡ false → NoneMatches mem (listOf g (f .xtd)) (f .id)
+      → UnmatchedTells (bits 5 4 (g .gfc .word)) d
+  pub anfe : (RemoteIsOut g f → ⊥) → f .xtd ≡ true → NoneMatches mem (listOf g (f .xtd)) (f .id)
+      → UnmatchedTells (bits 3 2 (g .gfc .word)) d
+  pub matched : (RemoteIsOut g f → ⊥) → (i : ℕ) → FirstIs mem (listOf g (f .xtd)) (f .id) i
+      → ActionTells g newdata (filterAt mem (listOf g (f .xtd)) i) i d
+
+abbrev pub DestinationIsByGfc : Type 0
+DestinationIsByGfc =
+    (g : Registers) (mem : List ℕ) (f : Frame) (newdata : ℕ) → GfcTells g mem f newdata (destination g mem f newdata)
+
+-- ---- the lists by bits
+
+-- e is the element of 11 bits in this word
+pub record ShortTells (e : FilterElement) (s0 : ℕ) : Type 0 where
+  pub filtertype : e .filtertype ≡ bits 31 30 s0
+  pub action : e .action ≡ bits 29 27 s0
+  pub id1 : e .id1 ≡ bits 26 16 s0
+  pub id2 : e .id2 ≡ bits 10 0 s0
+
+-- and of 29 bits in these two
+pub record LongTells (e : FilterElement) (f0 f1 : ℕ) : Type 0 where
+  pub action : e .action ≡ bits 31 29 f0
+  pub id1 : e .id1 ≡ bits 28 0 f0
+  pub filtertype : e .filtertype ≡ bits 31 30 f1
+  pub id2 : e .id2 ≡ bits 28 0 f1
+
+-- the two lists: how many elements, the words of element i, and XIDAM
+pub record ListTells (g : Registers) (mem : List ℕ) : Type 0 where
+  pub count11 : listOf g false .count ≡ bits 23 16 (g .sidfc .word)
+  pub count29 : listOf g true .count ≡ bits 22 16 (g .xidfc .word)
+  pub short : (i : ℕ)
+      → ShortTells (filterAt mem (listOf g false) i) (getD mem (bits 15 2 (g .sidfc .word) + i) 0)
+  pub long : (i : ℕ) → let at = bits 15 2 (g .xidfc .word) + 2 * i in
+      LongTells (filterAt mem (listOf g true) i) (getD mem at 0) (getD mem (at + 1) 0)
+  pub xidam : listOf g true .xidam ≡ bits 28 0 (g .xidam .word)
+
+abbrev pub ListsAreByBits : Type 0
+ListsAreByBits = (g : Registers) (mem : List ℕ) → ListTells g mem
 
 -- ---- what is read
 
