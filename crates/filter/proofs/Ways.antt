@@ -9,27 +9,26 @@ use lib.Dec.{eqb}
 use Rattle.words.specs.Fields.{bits}
 use Rattle.words.specs.Bits.{isSet}
 use Rattle.words.proofs.Choices.{pick-first, pick-second}
-use Rattle.registers.specs.Fields.{anfs, anfe, rrfs, rrfe}
 use Rattle.registers.specs.declared.Registers.{Registers}
 use Rattle.frame.specs.declared.Frame.{Frame}
 use Rattle.frame.specs.declared.Matched.the-variants.{Nothing, Filter}
 use Rattle.filter.specs.Search.{listOf, filterAt, firstMatch}
-use Rattle.filter.specs.Destination.{Goes, toFifo, toBuffer, discarded, remoteOut, nonMatching, unmatched}
-use Rattle.filter.specs.Destination.{rxBuffer, byAction, bySearch, destination}
+use Rattle.filter.specs.Destination.{Goes, toFifo, toBuffer, discarded, remoteField, remoteOut, nonMatching}
+use Rattle.filter.specs.Destination.{unmatched, rxBuffer, byAction, bySearch, destination}
 use Rattle.filter.specs.declared.filters.FilterElement.{FilterElement}
 use Rattle.filter.specs.declared.lists.FilterList.{FilterList}
 
 module _ (g : Registers) (xtd : Bool) (b : ℕ) where
-  pub out-long : b ≡ rrfe g → xtd ≡ true → eqb b 1 ≡ remoteOut g xtd
+  pub out-long : b ≡ remoteField g true → xtd ≡ true → eqb b 1 ≡ remoteOut g xtd
   out-long d h = rw (h, d)
 
-  pub out-short : b ≡ rrfs g → xtd ≡ false → eqb b 1 ≡ remoteOut g xtd
+  pub out-short : b ≡ remoteField g false → xtd ≡ false → eqb b 1 ≡ remoteOut g xtd
   out-short d h = rw (h, d)
 
-  pub non-long : b ≡ anfe g → xtd ≡ true → b ≡ nonMatching g xtd
+  pub non-long : b ≡ nonMatching g true → xtd ≡ true → b ≡ nonMatching g xtd
   non-long d h = rw h d
 
-  pub non-short : b ≡ anfs g → xtd ≡ false → b ≡ nonMatching g xtd
+  pub non-short : b ≡ nonMatching g false → xtd ≡ false → b ≡ nonMatching g xtd
   non-short d h = rw h d
 
 pub ruleset globals = (out-long, out-short, non-long, non-short)
