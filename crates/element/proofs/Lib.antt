@@ -3,7 +3,7 @@ pub mod Unpacking
 pub mod Storing
 pub mod Readings
 pub mod Fitness
+pub mod TableOfBits
 pub mod WordsBack
 pub mod OwnWords
 pub mod RoundTrip
-pub mod TableOfBits

@@ -15,7 +15,8 @@ use Rattle.element.specs.Fitting.{indexOf}
 use Rattle.element.specs.Word0.{idBits, word0}
 use Rattle.element.specs.declared.Arrival.{Arrival}
 use Rattle.element.specs.declared.TxHeader.{TxHeader}
-use Rattle.element.specs.Word1.{formBits, matchBits, markerBits, rxWord1, txWord1, eventWord1}
+use Rattle.element.specs.Word1.{formSum, formBits, matchBits, markerBits, rxWord1, txWord1}
+use Rattle.element.specs.Word1.{eventWord1}
 
 -- an identifier in its place is within 28:0
 pub id-lt : (xtd : Bool) (id : ℕ) → IdInKind xtd id → idBits xtd id < 2 ^ 29
@@ -50,7 +51,7 @@ first-word f esi xtd rtr id a b c d = rw (a, b, c, d)
 -- ---- word 1
 
 module _ (f : Frame) (fdf brs : ℕ) (a : fdf ≡ pick (f .fdf) 1 0) (b : brs ≡ pick (f .brs) 1 0) where
-  pub form-sum : fdf * 2 ^ 21 + brs * 2 ^ 20 + f .dlc * 2 ^ 16 ≡ formBits f
+  pub form-sum : formSum fdf brs (f .dlc) ≡ formBits f
   unfolding formBits
   form-sum = rw (a, b)
 

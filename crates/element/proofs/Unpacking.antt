@@ -9,7 +9,7 @@ use Rattle.words.specs.Fields.{bits}
 use Rattle.frame.specs.Identifier.{IdInKind}
 use Rattle.frame.specs.declared.Frame.{Frame}
 use Rattle.element.specs.Word0.{idIn}
-use Rattle.element.specs.Word1.{markerIn}
+use Rattle.element.specs.Word1.{fdfIn, brsIn, markerIn}
 use Rattle.element.specs.Headers.{frameIn, rxHeaderIn, txHeaderIn, eventHeaderIn}
 
 -- an identifier that is read is within its kind
@@ -41,8 +41,8 @@ module _ (first second : ℕ) where
     id = id;
     xtd = isSet first 30;
     rtr = isSet first 29;
-    fdf = isSet second 21;
-    brs = isSet second 20;
+    fdf = fdfIn second;
+    brs = brsIn second;
     esi = isSet first 31;
     dlc = bits 19 16 second;
   }

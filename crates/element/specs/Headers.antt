@@ -6,7 +6,7 @@ use Rattle.words.specs.Bits.{isSet}
 use Rattle.words.specs.Fields.{bits}
 use Rattle.frame.specs.declared.Frame.{Frame}
 use Rattle.element.specs.Word0.{idIn}
-use Rattle.element.specs.Word1.{markerIn}
+use Rattle.element.specs.Word1.{fdfIn, brsIn, markerIn}
 use Rattle.element.specs.declared.RxHeader.{RxHeader}
 use Rattle.element.specs.declared.TxHeader.{TxHeader}
 use Rattle.element.specs.declared.EventHeader.{EventHeader}
@@ -17,8 +17,8 @@ frameIn first second = record {
   id = idIn (isSet first 30) first;
   xtd = isSet first 30;
   rtr = isSet first 29;
-  fdf = isSet second 21;
-  brs = isSet second 20;
+  fdf = fdfIn second;
+  brs = brsIn second;
   esi = isSet first 31;
   dlc = bits 19 16 second;
 }

@@ -1,6 +1,8 @@
 -- Word 1 of each kind of element: its fields added up. Bits that are not named are 0.
 use Prim.Native.Nat.{ℕ, _+_, _*_, _^_}
+use mathlib.Core.Bool.{Bool}
 use Rattle.words.specs.Choice.{pick}
+use Rattle.words.specs.Bits.{isSet}
 use Rattle.words.specs.Fields.{bits}
 use Rattle.frame.specs.declared.Frame.{Frame}
 use Rattle.frame.specs.declared.Matched.{Matched}
@@ -9,8 +11,18 @@ use Rattle.element.specs.declared.Arrival.{Arrival}
 use Rattle.element.specs.declared.TxHeader.{TxHeader}
 
 -- in every kind: FDF 21, BRS 20, DLC 19:16
+abbrev pub formSum : ℕ → ℕ → ℕ → ℕ
+formSum fdf brs dlc = fdf * 2 ^ 21 + brs * 2 ^ 20 + dlc * 2 ^ 16
+
 unfoldable pub formBits : Frame → ℕ
-formBits f = pick (f .fdf) 1 0 * 2 ^ 21 + pick (f .brs) 1 0 * 2 ^ 20 + f .dlc * 2 ^ 16
+formBits f = formSum (pick (f .fdf) 1 0) (pick (f .brs) 1 0) (f .dlc)
+
+-- FDF and BRS taken out of it
+abbrev pub fdfIn : ℕ → Bool
+fdfIn w = isSet w 21
+
+abbrev pub brsIn : ℕ → Bool
+brsIn w = isSet w 20
 
 -- ANMF 31, filter index 30:24, which is 0 if ANMF
 abbrev pub matchBits : Matched → ℕ
