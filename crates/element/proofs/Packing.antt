@@ -15,8 +15,8 @@ use Rattle.element.specs.Fitting.{indexOf}
 use Rattle.element.specs.Word0.{idBits, word0}
 use Rattle.element.specs.declared.Arrival.{Arrival}
 use Rattle.element.specs.declared.TxHeader.{TxHeader}
-use Rattle.element.specs.Word1.{formSum, formBits, matchBits, markerBits, rxWord1, txWord1}
-use Rattle.element.specs.Word1.{eventWord1}
+use Rattle.element.specs.Word1.{formSum, formBits, matchBits, markerBits, rxWord1}
+use Rattle.element.specs.Word1.{txSum, txWord1, eventWord1}
 
 -- an identifier in its place is within 28:0
 pub id-lt : (xtd : Bool) (id : ℕ) → IdInKind xtd id → idBits xtd id < 2 ^ 29
@@ -80,7 +80,7 @@ unfolding rxWord1
 rx-sum x form match e a = rw (a, e)
 
 pub tx-sum : (h : TxHeader) (form top want : ℕ) → form ≡ formBits (h .frame) → top ≡ markerBits (h .marker)
-    → want ≡ pick (h .wish) 1 0 → top + want * 2 ^ 23 + form ≡ txWord1 h
+    → want ≡ pick (h .wish) 1 0 → txSum top want form ≡ txWord1 h
 unfolding txWord1
 tx-sum h form top want e a b = rw (a, b, e)
 

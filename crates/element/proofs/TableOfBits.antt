@@ -18,7 +18,6 @@ use Rattle.words.proofs.Choices.{pick-first, pick-second}
 use Rattle.words.proofs.Runs.{getD-run}
 use Rattle.frame.specs.declared.Frame.{Frame}
 use Rattle.frame.specs.declared.Matched.{Matched}
-use Rattle.frame.specs.declared.Matched.the-variants.{Nothing, Filter}
 use Rattle.element.specs.Fitting.{anmfOf, indexOf, InFields}
 use Rattle.element.specs.Word0.{idIn, word0}
 use Rattle.element.specs.Word1.{formBits, rxWord1, txWord1, eventWord1}

@@ -9,7 +9,7 @@ use Rattle.words.specs.Fields.{bits}
 use Rattle.frame.specs.Identifier.{IdInKind}
 use Rattle.frame.specs.declared.Frame.{Frame}
 use Rattle.element.specs.Word0.{idIn}
-use Rattle.element.specs.Word1.{fdfIn, brsIn, markerIn}
+use Rattle.element.specs.Word1.{fdfIn, brsIn, markerIn, wishIn}
 use Rattle.element.specs.Headers.{frameIn, rxHeaderIn, txHeaderIn, eventHeaderIn}
 
 -- an identifier that is read is within its kind
@@ -58,7 +58,7 @@ module _ (first second : ℕ) where
     rx-in a = rw (e, a)
 
     pub tx-in : marker ≡ markerIn second
-        → record { frame = f; marker = marker; wish = isSet second 23 } ≡ txHeaderIn first second
+        → record { frame = f; marker = marker; wish = wishIn second } ≡ txHeaderIn first second
     unfolding txHeaderIn
     tx-in a = rw (e, a)
 

@@ -6,7 +6,7 @@ use Rattle.words.specs.Bits.{isSet}
 use Rattle.words.specs.Fields.{bits}
 use Rattle.frame.specs.declared.Frame.{Frame}
 use Rattle.element.specs.Word0.{idIn}
-use Rattle.element.specs.Word1.{fdfIn, brsIn, markerIn}
+use Rattle.element.specs.Word1.{fdfIn, brsIn, markerIn, wishIn}
 use Rattle.element.specs.declared.RxHeader.{RxHeader}
 use Rattle.element.specs.declared.TxHeader.{TxHeader}
 use Rattle.element.specs.declared.EventHeader.{EventHeader}
@@ -33,7 +33,7 @@ rxHeaderIn first second = record {
 }
 
 unfoldable pub txHeaderIn : ℕ → ℕ → TxHeader
-txHeaderIn first second = record { frame = frameIn first second; marker = markerIn second; wish = isSet second 23 }
+txHeaderIn first second = record { frame = frameIn first second; marker = markerIn second; wish = wishIn second }
 
 -- the type is as in the word
 unfoldable pub eventHeaderIn : ℕ → ℕ → EventHeader

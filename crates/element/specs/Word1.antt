@@ -40,8 +40,14 @@ unfoldable pub rxWord1 : Arrival → ℕ
 rxWord1 a = matchBits (a .matched) + formBits (a .frame) + a .time
 
 -- a Tx element's: the marker, and event wanted 23
+abbrev pub txSum : ℕ → ℕ → ℕ → ℕ
+txSum marker wish form = marker + wish * 2 ^ 23 + form
+
 unfoldable pub txWord1 : TxHeader → ℕ
-txWord1 h = markerBits (h .marker) + pick (h .wish) 1 0 * 2 ^ 23 + formBits (h .frame)
+txWord1 h = txSum (markerBits (h .marker)) (pick (h .wish) 1 0) (formBits (h .frame))
+
+abbrev pub wishIn : ℕ → Bool
+wishIn w = isSet w 23
 
 -- an event's: the marker, type 1 in 23:22, and the timestamp in 15:0
 unfoldable pub eventWord1 : ℕ → Frame → ℕ → ℕ

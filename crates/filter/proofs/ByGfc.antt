@@ -4,7 +4,7 @@ use Prim.Native.Nat.{ℕ}
 use mathlib.Core.Path.{_≡_, refl, sym, ap, _∙_, subst}
 use mathlib.Core.Bool.{Bool, true, false, not, _&&_}
 use mathlib.Core.List.{List}
-use mathlib.Core.Logic.{_↔_, _⊎_, inl, inr}
+use mathlib.Core.Logic.{_⊎_, inl, inr}
 use lib.Dec.{eqb, ltb, leb}
 use borrow.Author.Tests.{eqb-true, eq-eqb}
 use Rattle.words.specs.Choice.{pick}
@@ -118,8 +118,8 @@ module _ (g : Registers) (mem : List ℕ) (f : Frame) (newdata : ℕ) where
       go false e =
           let same : destination g mem f newdata ≡ searched = pick-second _ _ e in
           let yes : isRemote searched ≡ true = ap isRemote (sym same) ∙ h in
-          let not-so : isRemote searched ≡ false = 
-              other-not searched (search-other g mem list newdata (firstMatch mem list (f .id))) in
+          let not-so : isRemote searched ≡ false =
+          other-not searched (search-other g mem list newdata (firstMatch mem list (f .id))) in
           cc
 
 pub destination-is-by-gfc : DestinationIsByGfc
@@ -132,9 +132,11 @@ destination-is-by-gfc g mem f newdata =
         λ h. tells .remote (bit-out g mem f newdata h),
       );
       anfs = λ k e none.
-          subst (λ (anf : ℕ). UnmatchedTells anf d) (pick-second _ _ e) (tells .unmatched (stays g mem f newdata k) none);
+          subst (λ (anf : ℕ). UnmatchedTells anf d) (pick-second _ _ e)
+          (tells .unmatched (stays g mem f newdata k) none);
       anfe = λ k e none.
-          subst (λ (anf : ℕ). UnmatchedTells anf d) (pick-first _ _ e) (tells .unmatched (stays g mem f newdata k) none);
+          subst (λ (anf : ℕ). UnmatchedTells anf d) (pick-first _ _ e)
+          (tells .unmatched (stays g mem f newdata k) none);
       matched = λ k. tells .matched (stays g mem f newdata k);
     }
 

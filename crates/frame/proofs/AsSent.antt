@@ -1,6 +1,6 @@
 -- The form as sent and the bytes as sent, each by what the paper says of it.
 -- Assumes nothing.
-use Prim.Native.Nat.{ℕ, _+_, _≤_, _<_}
+use Prim.Native.Nat.{ℕ, _<_}
 use mathlib.Core.Path.{_≡_, refl, ap, _∙_}
 use mathlib.Core.Bool.{Bool, true, false, not, _&&_, _||_}
 use mathlib.Core.List.{List}
@@ -10,7 +10,6 @@ use lib.Dec.{ltb}
 use lib.ListN.{getD}
 use borrow.Author.Tests.{lt-ltb, le-ltb}
 use Rattle.words.specs.Choice.{pick}
-use Rattle.words.specs.Runs.{run}
 use Rattle.words.proofs.Choices.{pick-first, pick-second}
 use Rattle.words.proofs.Runs.{length-run, getD-run}
 use Rattle.frame.specs.Sent.{sentFd, asSent, sentBytes}

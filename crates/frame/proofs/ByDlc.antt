@@ -9,7 +9,7 @@ use lib.Dec.{eqb, eqb→eq}
 use lib.ListN.{getD}
 use Rattle.words.proofs.Tables.{every, every-at}
 use Rattle.frame.specs.Length.{fdBytes, dataLength}
-use Rattle.frame.specs.Sizes.{elementBytes, elementWords}
+use Rattle.frame.specs.Sizes.{elementBytes}
 use Rattle.frame.specs.Promises.{LengthTells, LengthIsByDlc, SizesAreByCode}
 use Rattle.frame.proofs.Lengths.{length-remote, length-fd, length-classic}
 use Rattle.frame.proofs.SizeLaws.{words-of-bytes}

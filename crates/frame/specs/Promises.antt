@@ -32,7 +32,8 @@ pub record SentTells (f : Frame) (fd switching passive : Bool) (sent : Frame) : 
   pub dominant : sent .fdf ≡ true → sent .rtr ≡ false
 
 abbrev pub FormIsAsSent : Type 0
-FormIsAsSent = (f : Frame) (fd switching passive : Bool) → SentTells f fd switching passive (asSent f fd switching passive)
+FormIsAsSent =
+    (f : Frame) (fd switching passive : Bool) → SentTells f fd switching passive (asSent f fd switching passive)
 
 -- n bytes as sent of data that stand in an element of e bytes: the data below the element's size, 0xCC from there on
 pub record BytesTell (e : ℕ) (d : List ℕ) (n : ℕ) (sent : List ℕ) : Type 0 where
