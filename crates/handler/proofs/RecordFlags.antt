@@ -1,14 +1,13 @@
 -- Flags that are raised: one, those of a ring, those of two lists together. FIFO 0, FIFO 1 and events alike.
 -- Assumes nothing.
-use Prim.Native.Nat.{ℕ, _+_, _<_}
-use mathlib.Core.Path.{_≡_, refl, sym, ap, ap₂, _∙_}
-use mathlib.Core.Bool.{Bool, true, false, not, _&&_, _||_}
-use mathlib.Core.List.{List, [], _∷_, _++_}
+use Prim.Native.Nat.{ℕ, _+_}
+use mathlib.Core.Path.{_≡_, refl, sym, ap, _∙_}
+use mathlib.Core.Bool.{Bool, true, false, _&&_, _||_}
+use mathlib.Core.List.{[], _∷_, _++_}
 use borrow.Author.Tests.{eqb-true, eqb-false, eq-eqb, lt-ltb, le-ltb}
 use native.Mathlib.Omega.{arith}
-use lib.Dec.{eqb, ltb}
+use lib.Dec.{eqb}
 use Rattle.words.specs.Bits.{bit, isSet, withBit}
-use Rattle.words.specs.Choice.{pick}
 use Rattle.words.proofs.Bits.{set-same, set-other}
 use Rattle.ring.specs.declared.Ring.{Ring}
 use Rattle.places.specs.declared.Slot.{Slot}
@@ -40,9 +39,6 @@ pub kept : (a c : Bool) → (a || c) ≡ (a && true || c)
 kept a c = ap (λ (x : Bool). x || c) (sym (and-true a))
 
 -- ---- one flag
-
-pub up : Record → ℕ → Bool
-up r n = isSet (r .flags) n
 
 set-flag : (w flag n : ℕ) → isSet (withBit w flag) n ≡ (isSet w n || eqb n flag)
 set-flag w flag n = go (eqb n flag) refl
@@ -103,11 +99,13 @@ module _ (k : Keeper) (q : Ring) (r : Record) (n : ℕ) where
   Told x =
       isSet (x .recorded .flags) n
       ≡ (isSet (r .flags) n
-      || raises (ringRaises (k .first) (k .mark) (k .size) (q .fill) (x .ring .fill) (isAt (x .slot)) (isLost (x .slot))) n)
+      || raises
+      (ringRaises (k .first) (k .mark) (k .size) (q .fill) (x .ring .fill) (isAt (x .slot)) (isLost (x .slot))) n)
 
   filling-up : (first fill mark size : ℕ)
       → isSet (filling r first fill mark size .flags) n
-      ≡ (((isSet (r .flags) n || eqb n first) || (eqb fill mark && eqb n (first + 1))) || (eqb fill size && eqb n (first + 2)))
+      ≡ (((isSet (r .flags) n || eqb n first) || (eqb fill mark && eqb n (first + 1)))
+      || (eqb fill size && eqb n (first + 2)))
   unfolding filling
   filling-up first fill mark size =
       raised-if-up _ (eqb fill size) (first + 2) n
@@ -115,13 +113,18 @@ module _ (k : Keeper) (q : Ring) (r : Record) (n : ℕ) where
       (raised-if-up _ (eqb fill mark) (first + 1) n
       ∙ ap (λ (x : Bool). x || (eqb fill mark && eqb n (first + 1))) (raised-up r first n))
 
+  -- a ring whose fill stays raises one flag
+  alone : (flag : ℕ) → (isSet (r .flags) n || eqb n flag) ≡ (isSet (r .flags) n || (eqb n flag || false))
+  alone flag = ap (λ (x : Bool). isSet (r .flags) n || x) (sym (or-false (eqb n flag)))
+
   pub ring-told : Told (keepRule k q r)
   ring-told =
+      let rose = lt-ltb (q .fill) (q .fill + 1) (omega arith) in
+      let stayed = le-ltb (q .fill) (q .fill) (omega arith) in
       keep-cases k q r Told
-      (λ h. filling-up (k .first) (q .fill + 1) (k .mark) (k .size)
+      (λ h.
+      filling-up (k .first) (q .fill + 1) (k .mark) (k .size)
       ∙ four (isSet (r .flags) n) (eqb n (k .first)) _ _
-      ∙ (let e = lt-ltb (q .fill) (q .fill + 1) (omega arith) in simp e))
-      (raised-up r (k .first + 3) n
-      ∙ (let e = le-ltb (q .fill) (q .fill) (omega arith) in simp e (ap (λ (x : Bool). isSet (r .flags) n || x) (sym (or-false (eqb n (k .first + 3)))))))
-      (λ h. raised-up r (k .first) n
-      ∙ (let e = le-ltb (q .fill) (q .fill) (omega arith) in simp e (ap (λ (x : Bool). isSet (r .flags) n || x) (sym (or-false (eqb n (k .first)))))))
+      ∙ simp rose)
+      (raised-up r (k .first + 3) n ∙ simp stayed (alone (k .first + 3)))
+      (λ h. raised-up r (k .first) n ∙ simp stayed (alone (k .first)))

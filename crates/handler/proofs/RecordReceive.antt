@@ -4,7 +4,7 @@ use Prim.Native.Nat.{ℕ, zero, suc, _+_, _*_, _/_, _%_, _^_, _≤_, _<_}
 use mathlib.Core.Path.{_≡_, refl, sym, ap, ap₂, _∙_, subst}
 use mathlib.Core.Bool.{Bool, true, false, not, _&&_, _||_}
 use mathlib.Core.List.{List, [], _∷_, _++_}
-use borrow.Author.Tests.{eqb-true, eq-eqb, ne-eqb}
+use borrow.Author.Tests.{eqb-true}
 use native.Mathlib.Omega.{arith}
 use lib.Dec.{eqb, ltb, leb}
 use lib.ListN.{length}
@@ -25,29 +25,26 @@ use Rattle.filter.specs.Destination.{nonMatching, destination}
 use Rattle.filter.specs.Promises.{Within}
 use Rattle.filter.specs.Search.{filterAt, firstMatch}
 use Rattle.engine.specs.Calls.{World, world}
-use Rattle.engine.specs.Flags.{raised, withPriority, priorityWord, filling}
+use Rattle.engine.specs.Flags.{raised, withPriority, priorityWord}
 use Rattle.engine.specs.Keeping.{keepRule}
 use Rattle.engine.specs.Needs.{CanKeep}
 use Rattle.engine.specs.States.{fifoRing, withFifo}
-use Rattle.engine.specs.declared.keeping.Keeper.{Keeper}
-use Rattle.engine.specs.declared.keeping.Kept.{Kept}
 use Rattle.engine.specs.declared.state.Record.{Record}
-use Rattle.engine.specs.declared.state.State.{State}
 use Rattle.engine.proofs.Keeps.{kept-within}
 use Rattle.engine.proofs.Sounds.{ring-fits}
 use Rattle.receiving.specs.Fifos.{keeperOf}
-use Rattle.receiving.specs.Priority.{prioritised, slotNoted, dropNoted}
-use Rattle.receiving.specs.Receive.{Fate, stored, storedBuffer, lostTo, dropped, arrival, slotSays, intoFifo}
+use Rattle.receiving.specs.Priority.{prioritised, slotNoted}
+use Rattle.receiving.specs.Receive.{Fate, storedBuffer, dropped, arrival, slotSays, intoFifo}
 use Rattle.receiving.specs.Receive.{intoBuffer, intoNothing, goesTo, receives}
 use Rattle.receiving.proofs.Judgements.{ReceiveOpen}
 use Rattle.receiving.proofs.Lists.{index-small}
 use Rattle.receiving.proofs.Outcomes.{goes-within}
 use Rattle.handler.specs.Demand2.{listFor, matchIn, outAtOnce}
-use Rattle.handler.specs.Records.{Raises, raises, Word, same, zeroed, fields, ringRaises, storedTo, lostIn}
-use Rattle.handler.specs.Records.{inBuffer, forPriority, indexIn, outcomeIn, elementIn, fifoRaises, receiveNotes}
+use Rattle.handler.specs.Records.{Raises, raises, same, fields, ringRaises}
+use Rattle.handler.specs.Records.{inBuffer, forPriority, indexIn, fifoRaises, receiveNotes}
 use Rattle.handler.specs.Records.{PriorityFields, PriorityIs, Noted}
 use Rattle.handler.proofs.Parts.{keep-priority}
-use Rattle.handler.proofs.RecordFlags.{or-false, or-assoc, kept, raised-up, raised-if-up, raises-both, quiet}
+use Rattle.handler.proofs.RecordFlags.{or-false, kept, raised-up, raises-both, quiet}
 use Rattle.handler.proofs.RecordFlags.{isAt, isLost, ring-told}
 
 -- ---- which destination is for priority

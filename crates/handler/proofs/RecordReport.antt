@@ -1,9 +1,8 @@
 -- The record after a report: sent, the shared FIFO emptied, and the event list's flags.
 -- Assumes nothing.
-use Prim.Native.Nat.{ℕ, zero, suc, _≤_, _<_}
-use mathlib.Core.Path.{_≡_, refl, sym, ap, ap₂, _∙_, subst}
+use Prim.Native.Nat.{ℕ, zero, suc, _<_}
+use mathlib.Core.Path.{_≡_, refl, sym, ap, ap₂, _∙_}
 use mathlib.Core.Bool.{Bool, true, false, not, _&&_, _||_}
-use mathlib.Core.List.{List, [], _∷_}
 use borrow.Author.Tests.{leb-true, not-true, lt-ltb, le-ltb, ne-eqb}
 use native.Mathlib.Omega.{arith}
 use lib.Dec.{eqb, ltb, leb}
@@ -13,8 +12,6 @@ use Rattle.words.proofs.Choices.{and-both}
 use Rattle.ring.specs.Rings.{released}
 use Rattle.ring.specs.declared.Ring.{Ring}
 use Rattle.places.specs.Slots.{takeRule}
-use Rattle.places.specs.declared.Slot.{Slot}
-use Rattle.places.specs.declared.Slot.the-variants.{At, Lost}
 use Rattle.places.specs.declared.Taken.{Taken}
 use Rattle.places.proofs.Takes.{take-cases}
 use Rattle.registers.specs.Fields.{dedicated, shared, isQueue, eventSize, eventMark}
@@ -22,7 +19,6 @@ use Rattle.engine.specs.Buffers.{inSharedFifo}
 use Rattle.engine.specs.Calls.{World}
 use Rattle.engine.specs.Flags.{raised}
 use Rattle.engine.specs.Keeping.{keepRule}
-use Rattle.engine.specs.declared.keeping.Keeper.{Keeper}
 use Rattle.engine.specs.declared.state.Record.{Record}
 use Rattle.engine.specs.declared.state.State.{State}
 use Rattle.engine.proofs.Keeps.{kept-slot}

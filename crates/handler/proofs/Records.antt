@@ -1,9 +1,9 @@
 -- The record after every call.
 -- Assumes nothing.
 use Prim.Native.Nat.{ℕ, zero, suc, _-_, _^_, _≤_, _<_, min}
-use mathlib.Core.Path.{_≡_, refl, sym, ap, ap₂, _∙_}
+use mathlib.Core.Path.{_≡_, refl, sym, ap, _∙_}
 use mathlib.Core.Bool.{Bool, true, false, not, _&&_, _||_}
-use mathlib.Core.List.{List, [], _∷_}
+use mathlib.Core.List.{[]}
 use borrow.Author.Tests.{ltb-true, ltb-false, lt-leb}
 use native.Mathlib.Omega.{arith}
 use lib.Dec.{eqb, ltb, leb}
@@ -12,8 +12,7 @@ use Rattle.words.specs.Bits.{bit, isSet, withoutMask}
 use Rattle.words.specs.Fields.{inField}
 use Rattle.words.specs.Rules.{allowed, first}
 use Rattle.words.proofs.Bits.{bit-lt, bit-of-zero, cleared-bit, cleared-clear}
-use Rattle.shape.proofs.Calls.{rows-both}
-use Rattle.engine.specs.Calls.{World, Outcome, isUnfit, _when_, outputRefusals}
+use Rattle.engine.specs.Calls.{World, Outcome, isUnfit}
 use Rattle.engine.specs.Fitness.{flagFields, FlagsSound}
 use Rattle.engine.specs.Flags.{raised, cleared}
 use Rattle.engine.specs.declared.state.Record.{Record}
@@ -29,11 +28,11 @@ use Rattle.reporting.proofs.Judgements.{report-open}
 use Rattle.overview.specs.Overview.{overviewRefusals}
 use Rattle.handler.specs.Calls.{Call, start, receive, readFifo, acknowledgeFifo, readBuffer, releaseBuffer}
 use Rattle.handler.specs.Calls.{requestDedicated, requestShared, cancel, askChoice, reportSent, readEvent}
-use Rattle.handler.specs.Calls.{acknowledgeEvent, clearFlags, reportStatus, Answer, step}
+use Rattle.handler.specs.Calls.{acknowledgeEvent, clearFlags, reportStatus, Answer}
 use Rattle.handler.specs.Records.{raising, notesOf, notesIn, Noted, RecordTells}
 use Rattle.handler.specs.Rows.{rows}
 use Rattle.handler.proofs.Exact.{does, step-cases}
-use Rattle.handler.proofs.RecordFlags.{or-false, and-true, kept, raised-up}
+use Rattle.handler.proofs.RecordFlags.{or-false, kept, raised-up}
 use Rattle.handler.proofs.RecordReceive.{receive-noted}
 use Rattle.handler.proofs.RecordReport.{report-noted}
 
