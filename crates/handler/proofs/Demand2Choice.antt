@@ -1,34 +1,77 @@
 -- Demand 2, the choice: the first in arbitration of the paper's candidates, and what may be reported.
 -- Assumes nothing.
-use Prim.Native.Nat.{ℕ}
+use Prim.Native.Nat.{ℕ, _+_, _-_}
 use mathlib.Core.Path.{_≡_, refl, sym, ap, subst, _∙_}
 use mathlib.Core.Bool.{Bool, true, false}
 use mathlib.Core.List.{List, [], _++_}
 use mathlib.Core.Logic.{_↔_, inl, inr}
-use borrow.Author.Tests.{eq-eqb, lt-leb}
+use borrow.Author.Tests.{eqb-true, eqb-false, eq-eqb, ltb-true, ltb-false, lt-leb}
 use native.Mathlib.Omega.{arith}
+use lib.Dec.{ltb}
 use lib.ListN.{length}
+use Rattle.words.specs.Bits.{bit}
 use Rattle.words.specs.Best.{Best, nobody, somebody, AsGood}
 use Rattle.words.specs.Rules.{allowed, first}
+use Rattle.words.proofs.Bits.{bit-lt}
+use Rattle.words.proofs.Choices.{and-both}
+use Rattle.ring.specs.Rings.{age, held}
 use Rattle.shape.specs.Calls.{Says, answers, done, leaves}
 use Rattle.shape.proofs.Calls.{call-done, call-answers}
-use Rattle.registers.specs.Fields.{txCount}
+use Rattle.registers.specs.Fields.{dedicated, txCount, isQueue}
 use Rattle.frame.specs.Arbitration.{RankTells}
 use Rattle.frame.proofs.BusOrder.{rank-is-arbitration}
 use Rattle.element.specs.Headers.{txHeaderIn}
 use Rattle.element.proofs.Fitness.{read-fits}
+use Rattle.engine.specs.Buffers.{isPending}
 use Rattle.engine.specs.Calls.{World, Outcome, isUnfit, outputRefusals}
-use Rattle.engine.specs.Fitness.{Sound}
+use Rattle.engine.specs.Fitness.{sharedRingSize, Sound}
+use Rattle.engine.specs.declared.state.State.{State}
+use Rattle.engine.proofs.Buffers.{ring-size}
 use Rattle.engine.proofs.Sounds.{sound-of}
 use Rattle.choosing.specs.Buffers.{headerOf}
 use Rattle.choosing.specs.Choosing.{rankAt, choice, Next, none, nextOf, choiceRefusals, chooses}
-use Rattle.choosing.specs.Promises.{Candidate, BestOf}
-use Rattle.choosing.proofs.Candidates.{candidates-wait, choice-is-best, none-chosen}
+use Rattle.choosing.specs.Promises.{Candidate, dedicatedOne, oldestOne, queueOne, BestOf}
+use Rattle.choosing.proofs.Candidates.{set-below, candidates-wait, choice-is-best, none-chosen}
 use Rattle.reporting.specs.Reporting.{isChosen, reportRefusals, reports}
 use Rattle.reporting.proofs.Judgements.{report-open}
 use Rattle.overview.proofs.Fits.{pending-is-counted}
 use Rattle.handler.specs.Calls.{askChoice, reportSent, step}
 use Rattle.handler.specs.Demand2.{Before, GoesFirst, Names, Chooses}
+
+-- ---- there is a candidate exactly where a pending bit is set
+
+module _ (s : State) (words : ℕ) (h : Sound s words) where
+  some-stands : (k : ℕ) → isPending s k ≡ true → (i : ℕ) × Candidate s i
+  unfolding held
+  some-stands k e = go (ltb k (dedicated (s .regs))) refl (isQueue (s .regs)) refl
+    where
+      go : (a : Bool) → ltb k (dedicated (s .regs)) ≡ a → (q : Bool) → isQueue (s .regs) ≡ q → (i : ℕ) × Candidate s i
+      go true t q u = (k, dedicatedOne (ltb-true k (dedicated (s .regs)) t) e)
+      go false t true u = (k, queueOne u (ltb-false k (dedicated (s .regs)) t) e)
+      go false t false u =
+          let n = sharedRingSize (s .regs) in
+          let p = k - dedicated (s .regs) in
+          let from = ltb-false k (dedicated (s .regs)) t in
+          let there = set-below (s .pending) (txCount (s .regs)) k (h .pending) e in
+          let size = ring-size s words h u in
+          let same : dedicated (s .regs) + p ≡ k = omega arith in
+          let holds : held (s .shared) n p ≡ true =
+          sym (h .heldBits p (omega arith)) ∙ ap (isPending s) same ∙ e in
+          let both = and-both (ltb p n) (ltb (age (s .shared) n p) (s .shared .fill)) holds in
+          let some = ltb-true (age (s .shared) n p) (s .shared .fill) (both .1) in
+          (dedicated (s .regs) + s .shared .oldest, oldestOne u (omega arith) refl)
+
+  none-waits : ((k : ℕ) → Candidate s k → ⊥) → (k : ℕ) → bit (s .pending) k ≡ 0
+  none-waits empty k = go (isPending s k) refl
+    where
+      go : (b : Bool) → isPending s k ≡ b → bit (s .pending) k ≡ 0
+      go true e = let c = some-stands k e in absurd (empty (c .0) (c .1))
+      go false e =
+          let other = eqb-false (bit (s .pending) k) 1 e in
+          omega (arith, bit-lt (s .pending) k)
+
+  none-stands : ((k : ℕ) → bit (s .pending) k ≡ 0) → (k : ℕ) → Candidate s k → ⊥
+  none-stands z k c = omega (arith, z k, eqb-true (bit (s .pending) k) 1 (candidates-wait s words k h c .pending))
 
 -- ---- the rank's order is that of arbitration
 
@@ -102,6 +145,14 @@ module _ (w : World) where
           let m = none-chosen (w .state) (length (w .memory)) (w .memory) sound in
           (λ x. m .0 (n .0 (sym (asked e) ∙ x)), λ x. asked e ∙ n .1 (m .1 x))
 
+      asks-idle : length out ≡ 64
+          → (step w (askChoice passive out) .says ≡ answers none) ↔ ((k : ℕ) → bit (w .state .pending) k ≡ 0)
+      asks-idle e =
+          let n = asks-nothing e in (
+            λ x. none-waits (w .state) (length (w .memory)) sound (n .0 x),
+            λ z. n .1 (none-stands (w .state) (length (w .memory)) sound z),
+          )
+
     -- what is reported
 
     module _ (b : ℕ) (passive : Bool) (time : ℕ) where
@@ -128,6 +179,7 @@ pub choice-told : (w : World) → isUnfit w ≡ false → Chooses w
 choice-told w fit = record {
   chosen = λ passive out b e. asks w fit passive out b e;
   nothing = λ passive out e. asks-nothing w fit passive out e;
+  idle = λ passive out e. asks-idle w fit passive out e;
   reported = λ b passive time. (report-first w fit b passive time, first-reports w fit b passive time);
   waiting = λ b c. candidates-wait (w .state) (length (w .memory)) b (sound w fit) c;
   counted = λ o e. pending-is-counted w o e;

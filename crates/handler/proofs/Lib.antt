@@ -10,3 +10,7 @@ pub mod Demand2Memory
 pub mod Demand2Choice
 pub mod Demand2
 pub mod Stars
+pub mod RecordFlags
+pub mod RecordReceive
+pub mod RecordReport
+pub mod Records

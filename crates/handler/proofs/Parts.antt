@@ -159,13 +159,13 @@ filling-priority : (r : Record) (first fill mark size : ℕ) → filling r first
 unfolding filling raised
 filling-priority r first fill mark size = flag-priority _ (eqb fill size) _ ∙ flag-priority _ (eqb fill mark) _
 
-keep-priority : (k : Keeper) (q : Ring) (r : Record) → keepRule k q r .recorded .priority ≡ r .priority
+pub keep-priority : (k : Keeper) (q : Ring) (r : Record) → keepRule k q r .recorded .priority ≡ r .priority
 unfolding raised
 keep-priority k q r =
     keep-cases k q r (λ (x : Kept). x .recorded .priority ≡ r .priority) (λ h. filling-priority r _ _ _ _) refl
     (λ h. refl)
 
-sent-priority : (s : State) (r : Record) (buffer : ℕ) → sentRecord s r buffer .priority ≡ r .priority
+pub sent-priority : (s : State) (r : Record) (buffer : ℕ) → sentRecord s r buffer .priority ≡ r .priority
 unfolding raised
 sent-priority s r buffer = flag-priority (raised r 9) (inSharedFifo s buffer && eqb (sharedSent s buffer .fill) 0) 11
 

@@ -6,7 +6,7 @@ use mathlib.Core.Bool.{Bool, true, false, _&&_}
 use mathlib.Core.List.{List}
 use mathlib.Core.Logic.{_↔_, _⊎_}
 use lib.ListN.{length, getD, take}
-use Rattle.words.specs.Bits.{howMany}
+use Rattle.words.specs.Bits.{bit, howMany}
 use Rattle.words.specs.Runs.{splice}
 use Rattle.ring.specs.Rings.{putPlace}
 use Rattle.shape.specs.Calls.{Says, refuses, answers, done, outcome}
@@ -157,6 +157,9 @@ pub record Chooses (w : World) : Type 0 where
       → Names (step w (askChoice passive out) .says) buffer ↔ GoesFirst w buffer
   pub nothing : (passive : Bool) (out : List ℕ) → length out ≡ 64
       → (step w (askChoice passive out) .says ≡ answers none) ↔ ((k : ℕ) → Candidate (w .state) k → ⊥)
+  -- and exactly where nothing is pending: no pending bit is set
+  pub idle : (passive : Bool) (out : List ℕ) → length out ≡ 64
+      → (step w (askChoice passive out) .says ≡ answers none) ↔ ((k : ℕ) → bit (w .state .pending) k ≡ 0)
   -- a report is accepted of that buffer alone
   pub reported : (buffer : ℕ) (passive : Bool) (time : ℕ)
       → (step w (reportSent buffer passive time) .says ≡ done) ↔ GoesFirst w buffer

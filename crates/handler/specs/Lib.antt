@@ -5,3 +5,4 @@ pub mod Claims
 pub mod Demand1
 pub mod Demand2
 pub mod Stars
+pub mod Records
