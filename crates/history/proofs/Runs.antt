@@ -103,10 +103,10 @@ module _ (r : Run) where
       → Standing (r .regs) mem (note (r .regs) b c (step w c .says)) (step w c .world)
   kept b w c i h = step-kept (r .regs) mem b w h c i
 
-  begins : Standing (r .regs) mem emptyBook (began r)
+  pub begins : Standing (r .regs) mem emptyBook (began r)
   begins = standing-start (r .before) (r .regs) (r .accepted)
 
-  each : Each InRun (history r)
+  pub each : Each InRun (history r)
   each = in-run (began r) (r .calls) (r .typed) (r .last)
 
   pub standing : Standing (r .regs) mem (bookOf r) (now r)
