@@ -85,11 +85,10 @@ in-run : (w : World) (cs : List Call) → Each InTypes cs → tally isStarted (t
     → Each InRun (trace step w cs)
 unfolding tally
 in-run w [] typed none = tt
-in-run w (c ∷ cs) typed none =
-    (
-      (typed .0, not-one (isStarted (c, told (step w c))) refl),
-      in-run (step w c .world) cs (typed .1) (omega arith),
-    )
+in-run w (c ∷ cs) typed none = (
+  (typed .0, not-one (isStarted (c, told (step w c))) refl),
+  in-run (step w c .world) cs (typed .1) (omega arith),
+)
   where
     not-one : (t : Bool) → isStarted (c, told (step w c)) ≡ t → isStarted (c, told (step w c)) ≡ false
     not-one true e = absurd (omega (arith, ap (λ (b : Bool). pick {A = ℕ} b 1 0) e))
