@@ -1,9 +1,9 @@
--- The frames in a FIFO's book are those that the rules sent there: of each call, what it adds is what was meant.
+-- The frames in the book are those that the rules sent there: of each call, what it adds is what was meant.
 -- Assumes nothing.
 use Prim.Native.Nat.{ℕ, zero, suc, _≤_}
 use mathlib.Core.Path.{_≡_, refl, sym, ap, _∙_, subst}
 use mathlib.Core.Bool.{Bool, true, false, not, _&&_}
-use mathlib.Core.List.{List, [], _∷_, _++_, map, map-append, append-nil, append-assoc}
+use mathlib.Core.List.{List, [], _∷_, _++_, map, map-append, append-nil, append-assoc, reverse, reverse-append}
 use native.Mathlib.Omega.{arith}
 use lib.Dec.{eqb}
 use lib.ListN.{length}
@@ -32,16 +32,20 @@ use Rattle.books.specs.Lists.{Each}
 use Rattle.handler.specs.Calls.{Call, start, receive, readFifo, acknowledgeFifo, readBuffer, releaseBuffer}
 use Rattle.handler.specs.Calls.{requestDedicated, requestShared, cancel, askChoice, reportSent, readEvent}
 use Rattle.handler.specs.Calls.{acknowledgeEvent, clearFlags, reportStatus, Answer, step}
-use Rattle.history.specs.Books.{Book, emptyBook, fifoLedger, withFifoLedger, frameIn, noteFifo, noteFate, added, note}
-use Rattle.history.specs.Demand3.{Run, Meant}
+use Rattle.history.specs.Books.{InRxBuffer, Book, emptyBook, fifoLedger, withFifoLedger, frameIn, noteFifo, noteFate, added, note}
+use Rattle.history.specs.Demand3.{Run, history, bookOf, Meant}
 use Rattle.history.specs.Expected.{fateOf, expectReceive}
-use Rattle.history.specs.Meant.{wordsOf, goingTo, meantBy, meant}
+use Rattle.history.specs.Meant.{wordsOf, Brings, toThisFifo, toBuffers, meantBy, meant}
 use Rattle.history.proofs.Runs.{begins, each}
 use Rattle.history.proofs.Steps.{InRun, Standing, step-told, step-kept}
 
 -- the words of all that came to a FIFO
 abbrev came : Book → ℕ → List (List ℕ)
 came b fifo = map wordsOf (fifoLedger b fifo .arrived)
+
+-- and of the Rx buffers, in order
+abbrev kept : Book → List InRxBuffer
+kept b = reverse (b .buffered)
 
 -- ---- an arrival
 
@@ -66,7 +70,7 @@ module _ (g : Registers) (b : Book) (f : Frame) (d : List ℕ) (time : ℕ) wher
 
   -- by the fate that the rules give a frame
   fate-came : (fifo : ℕ) → fifo ≤ 1 → (newdata : ℕ) (goes : Goes) → Within g newdata goes
-      → came (noteFate g b f d time (fateOf g b goes)) fifo ≡ came b fifo ++ goingTo g fifo f d time goes
+      → came (noteFate g b f d time (fateOf g b goes)) fifo ≡ came b fifo ++ toThisFifo g fifo f d time goes
   unfolding fifoLedger
   fate-came fifo i newdata (toFifo k priority m) h =
       by-slot (expectSlot (fifoSize g k) (overwrites g k) (fifoLedger b k))
@@ -79,14 +83,23 @@ module _ (g : Registers) (b : Book) (f : Frame) (d : List ℕ) (time : ℕ) wher
   fate-came fifo i newdata (toBuffer buffer j) h = sym (append-nil _)
   fate-came fifo i newdata (discarded why m) h = sym (append-nil _)
 
+  fate-kept : (goes : Goes) → kept (noteFate g b f d time (fateOf g b goes)) ≡ kept b ++ toBuffers g f d time goes
+  unfolding withFifoLedger
+  fate-kept (toFifo k priority m) = by-slot (expectSlot (fifoSize g k) (overwrites g k) (fifoLedger b k))
+    where
+      by-slot : (slot : Slot) → kept (noteFate g b f d time (slotSays k m slot)) ≡ kept b ++ []
+      by-slot (At p) = sym (append-nil _)
+      by-slot Lost = sym (append-nil _)
+  fate-kept (toBuffer buffer j) = reverse-append (_ ∷ []) (b .buffered)
+  fate-kept (discarded why m) = sym (append-nil _)
+
 -- ---- one call
 
--- one that adds nothing to the FIFO
-none-came : {A : Type 0} (b : Book) (next : A → Book) (fifo : ℕ)
-    → ((a : A) → fifoLedger (next a) fifo .arrived ≡ fifoLedger b fifo .arrived)
-    → (x : Says A) → came (noted b next x) fifo ≡ came b fifo ++ noted [] (λ a. []) x
-none-came b next fifo same (answers a) = ap (map wordsOf) (same a) ∙ sym (append-nil _)
-none-came b next fifo same (refuses n) = sym (append-nil _)
+-- one that adds nothing
+none-noted : {A B : Type 0} (b : Book) (next : A → Book) (seen : Book → List B)
+    → ((a : A) → seen (next a) ≡ seen b) → (x : Says A) → seen (noted b next x) ≡ seen b ++ noted [] (λ a. []) x
+none-noted b next seen same (answers a) = same a ∙ sym (append-nil _)
+none-noted b next seen same (refuses n) = sym (append-nil _)
 
 -- an acknowledge releases what came before
 release-came : (b : Book) (of place fifo : ℕ)
@@ -104,67 +117,124 @@ release-came b of place fifo = go (eqb of 0) (eqb fifo 0)
     go false true = refl
     go false false = refl
 
-module _ (g : Registers) (began : List ℕ) (b : Book) (w : World) (h : Standing g began b w) (fifo : ℕ) (i : fifo ≤ 1) where
-  abbrev Came : (c : Call) → Says (Answer c) → Type 0
-  Came c x = came (note g b c x) fifo ≡ came b fifo ++ noted [] (λ a. meantBy g began fifo b c) x
+-- what is seen of the book, and what frames bring to it: each call adds what was meant
+module _ {A : Type 0} (g : Registers) (began : List ℕ) (seen : Book → List A) (brings : Brings A) where
+  abbrev Adds : Book → (c : Call) → Says (Answer c) → Type 0
+  Adds b c x = seen (note g b c x) ≡ seen b ++ noted [] (λ a. meantBy brings g began b c) x
 
-  receive-came : (f : Frame) (d : List ℕ) (time : ℕ) → Came (receive f d time) (step w (receive f d time) .says)
+  -- a receive does where its fate does
+  receive-adds : (b : Book) (w : World) → Standing g began b w → (f : Frame) (d : List ℕ) (time : ℕ)
+      → ((goes : Goes) → Within g (b .newdata) goes
+      → seen (noteFate g b f d time (fateOf g b goes)) ≡ seen b ++ brings f d time goes)
+      → Adds b (receive f d time) (step w (receive f d time) .says)
   unfolding expectReceive
-  receive-came f d time =
+  receive-adds b w h f d time adds =
       let goes = destination g began f (b .newdata) in
       let rows : Refusals = 21 when malformed f (length d) ∷ 22 when (f .fdf && not (g .fdon)) ∷ [] in
-      let legal = subst (λ (x : Registers). Within x (b .newdata) (destination x began f (b .newdata))) (h .agreed .regs)
+      let within = subst (λ (x : Registers). Within x (b .newdata) (destination x began f (b .newdata)))
+      (h .agreed .regs)
       (destination-is-within (w .state .regs) began f (b .newdata)
       (legal-lists (w .state .regs) (length (w .memory))
       (sound-of (w .state) (w .recorded) (length (w .memory)) (h .fit) .legal) .few)) in
-      subst (λ (t : Told Fate). Came (receive f d time) (t .says))
+      subst (λ (t : Told Fate). Adds b (receive f d time) (t .says))
       (sym (step-told g began b w h (receive f d time)))
       (call-cases (tt {0}) [] rows (effect (fateOf g b goes) (tt {0}) [])
-      (λ (o : Outcome (Unit {0}) Fate). Came (receive f d time) (o .says)) (λ n. sym (append-nil _))
-      (λ e. fate-came g b f d time fifo i (b .newdata) goes legal))
+      (λ (o : Outcome (Unit {0}) Fate). Adds b (receive f d time) (o .says)) (λ n. sym (append-nil _))
+      (λ e. adds goes within))
 
   -- one that is no receive
-  quiet : (c : Call) → meantBy g began fifo b c ≡ []
-      → ((a : Answer c) → fifoLedger (added g b c a) fifo .arrived ≡ fifoLedger b fifo .arrived)
-      → Came c (step w c .says)
-  quiet c none same =
-      none-came b (added g b c) fifo same (step w c .says)
-      ∙ ap (λ (xs : List (List ℕ)). came b fifo ++ noted [] (λ a. xs) (step w c .says)) (sym none)
+  quiet-adds : (b : Book) (c : Call) → meantBy brings g began b c ≡ [] → ((a : Answer c) → seen (added g b c a) ≡ seen b)
+      → (x : Says (Answer c)) → Adds b c x
+  quiet-adds b c none same x =
+      none-noted b (added g b c) seen same x ∙ ap (λ (xs : List A). seen b ++ noted [] (λ a. xs) x) (sym none)
 
-  call-came : (c : Call) → Came c (step w c .says)
+  -- then so does a run of calls
+  all-add : ((b : Book) (w : World) → Standing g began b w → (c : Call) → Adds b c (step w c .says))
+      → (b : Book) (w : World) → Standing g began b w → (cs : List Call) → Each InRun (trace step w cs)
+      → seen (book (note g) b (trace step w cs)) ≡ seen b ++ meant brings g began b (trace step w cs)
+  all-add adds b w h [] each = sym (append-nil _)
+  all-add adds b w h (c ∷ cs) each =
+      let next = note g b c (step w c .says) in
+      let v = step w c .world in
+      all-add adds next v (step-kept g began b w h c (each .0)) cs (each .1)
+      ∙ ap (λ (xs : List A). xs ++ meant brings g began next (trace step v cs)) (adds b w h c)
+      ∙ append-assoc (seen b) (noted [] (λ a. meantBy brings g began b c) (step w c .says))
+      (meant brings g began next (trace step v cs))
+
+-- ---- the two
+
+module _ (g : Registers) (began : List ℕ) (b : Book) (w : World) (h : Standing g began b w) where
+  fifo-adds : (fifo : ℕ) → fifo ≤ 1 → (c : Call)
+      → Adds g began (λ x. came x fifo) (toThisFifo g fifo) b c (step w c .says)
   unfolding fifoLedger
-  call-came (start regs) = quiet (start regs) refl (λ a. refl)
-  call-came (receive f d time) = receive-came f d time
-  call-came (readFifo k place out) = quiet (readFifo k place out) refl (λ a. refl)
-  call-came (acknowledgeFifo k place) = quiet (acknowledgeFifo k place) refl (λ a. release-came b k place fifo)
-  call-came (readBuffer buffer out) = quiet (readBuffer buffer out) refl (λ a. refl)
-  call-came (releaseBuffer buffer) = quiet (releaseBuffer buffer) refl (λ a. refl)
-  call-came (requestDedicated buffer q d) = quiet (requestDedicated buffer q d) refl (λ a. refl)
-  call-came (requestShared q d) = quiet (requestShared q d) refl (λ a. refl)
-  call-came (cancel buffer) = quiet (cancel buffer) refl (λ a. refl)
-  call-came (askChoice passive out) = quiet (askChoice passive out) refl (λ a. refl)
-  call-came (reportSent buffer passive time) = quiet (reportSent buffer passive time) refl (λ a. refl)
-  call-came (readEvent place) = quiet (readEvent place) refl (λ a. refl)
-  call-came (acknowledgeEvent place) = quiet (acknowledgeEvent place) refl (λ a. refl)
-  call-came (clearFlags mask) = quiet (clearFlags mask) refl (λ a. refl)
-  call-came reportStatus = quiet reportStatus refl (λ a. refl)
+  fifo-adds fifo i c = go c
+    where
+      same : (c : Call) → meantBy (toThisFifo g fifo) g began b c ≡ []
+          → ((a : Answer c) → came (added g b c a) fifo ≡ came b fifo)
+          → Adds g began (λ x. came x fifo) (toThisFifo g fifo) b c (step w c .says)
+      same c none e = quiet-adds g began (λ x. came x fifo) (toThisFifo g fifo) b c none e (step w c .says)
 
--- ---- all calls
+      go : (c : Call) → Adds g began (λ x. came x fifo) (toThisFifo g fifo) b c (step w c .says)
+      go (start regs) = same (start regs) refl (λ a. refl)
+      go (receive f d time) =
+          receive-adds g began (λ x. came x fifo) (toThisFifo g fifo) b w h f d time
+          (fate-came g b f d time fifo i (b .newdata))
+      go (readFifo k place out) = same (readFifo k place out) refl (λ a. refl)
+      go (acknowledgeFifo k place) =
+          same (acknowledgeFifo k place) refl (λ a. ap (map wordsOf) (release-came b k place fifo))
+      go (readBuffer buffer out) = same (readBuffer buffer out) refl (λ a. refl)
+      go (releaseBuffer buffer) = same (releaseBuffer buffer) refl (λ a. refl)
+      go (requestDedicated buffer q d) = same (requestDedicated buffer q d) refl (λ a. refl)
+      go (requestShared q d) = same (requestShared q d) refl (λ a. refl)
+      go (cancel buffer) = same (cancel buffer) refl (λ a. refl)
+      go (askChoice passive out) = same (askChoice passive out) refl (λ a. refl)
+      go (reportSent buffer passive time) = same (reportSent buffer passive time) refl (λ a. refl)
+      go (readEvent place) = same (readEvent place) refl (λ a. refl)
+      go (acknowledgeEvent place) = same (acknowledgeEvent place) refl (λ a. refl)
+      go (clearFlags mask) = same (clearFlags mask) refl (λ a. refl)
+      go reportStatus = same reportStatus refl (λ a. refl)
 
-all-came : (g : Registers) (began : List ℕ) (fifo : ℕ) → fifo ≤ 1 → (b : Book) (w : World) → Standing g began b w
-    → (cs : List Call) → Each InRun (trace step w cs)
-    → came (book (note g) b (trace step w cs)) fifo ≡ came b fifo ++ meant g began fifo b (trace step w cs)
-all-came g began fifo i b w h [] each = sym (append-nil _)
-all-came g began fifo i b w h (c ∷ cs) each =
-    let next = note g b c (step w c .says) in
-    let v = step w c .world in
-    all-came g began fifo i next v (step-kept g began b w h c (each .0)) cs (each .1)
-    ∙ ap (λ (xs : List (List ℕ)). xs ++ meant g began fifo next (trace step v cs)) (call-came g began b w h fifo i c)
-    ∙ append-assoc (came b fifo) (noted [] (λ a. meantBy g began fifo b c) (step w c .says))
-    (meant g began fifo next (trace step v cs))
+  buffers-add : (c : Call) → Adds g began kept (toBuffers g) b c (step w c .says)
+  unfolding withFifoLedger
+  buffers-add c = go c
+    where
+      same : (c : Call) → meantBy (toBuffers g) g began b c ≡ [] → ((a : Answer c) → kept (added g b c a) ≡ kept b)
+          → Adds g began kept (toBuffers g) b c (step w c .says)
+      same c none e = quiet-adds g began kept (toBuffers g) b c none e (step w c .says)
+
+      go : (c : Call) → Adds g began kept (toBuffers g) b c (step w c .says)
+      go (start regs) = same (start regs) refl (λ a. refl)
+      go (receive f d time) =
+          receive-adds g began kept (toBuffers g) b w h f d time (λ goes within. fate-kept g b f d time goes)
+      go (readFifo k place out) = same (readFifo k place out) refl (λ a. refl)
+      go (acknowledgeFifo k place) = same (acknowledgeFifo k place) refl (λ a. refl)
+      go (readBuffer buffer out) = same (readBuffer buffer out) refl (λ a. refl)
+      go (releaseBuffer buffer) = same (releaseBuffer buffer) refl (λ a. refl)
+      go (requestDedicated buffer q d) = same (requestDedicated buffer q d) refl (λ a. refl)
+      go (requestShared q d) = same (requestShared q d) refl (λ a. refl)
+      go (cancel buffer) = same (cancel buffer) refl (λ a. refl)
+      go (askChoice passive out) = same (askChoice passive out) refl (λ a. refl)
+      go (reportSent buffer passive time) = same (reportSent buffer passive time) refl (λ a. refl)
+      go (readEvent place) = same (readEvent place) refl (λ a. refl)
+      go (acknowledgeEvent place) = same (acknowledgeEvent place) refl (λ a. refl)
+      go (clearFlags mask) = same (clearFlags mask) refl (λ a. refl)
+      go reportStatus = same reportStatus refl (λ a. refl)
 
 pub as-meant : (r : Run) → Meant r
 unfolding fifoLedger
-as-meant r zero i = all-came (r .regs) (r .before .memory) 0 i emptyBook _ (begins r) (r .calls) (each r)
-as-meant r (suc zero) i = all-came (r .regs) (r .before .memory) 1 i emptyBook _ (begins r) (r .calls) (each r)
-as-meant r (suc (suc k)) i = absurd (omega arith)
+as-meant r = record {
+  fifos = λ fifo i. of-fifo fifo i;
+  buffers =
+      all-add (r .regs) (r .before .memory) kept (toBuffers (r .regs))
+      (λ b w h c. buffers-add (r .regs) (r .before .memory) b w h c) emptyBook _ (begins r) (r .calls) (each r);
+}
+  where
+    of-fifo : (fifo : ℕ) → fifo ≤ 1
+        → came (bookOf r) fifo ≡ meant (toThisFifo (r .regs) fifo) (r .regs) (r .before .memory) emptyBook (history r)
+    of-fifo zero i =
+        all-add (r .regs) (r .before .memory) (λ x. came x 0) (toThisFifo (r .regs) 0)
+        (λ b w h c. fifo-adds (r .regs) (r .before .memory) b w h 0 i c) emptyBook _ (begins r) (r .calls) (each r)
+    of-fifo (suc zero) i =
+        all-add (r .regs) (r .before .memory) (λ x. came x 1) (toThisFifo (r .regs) 1)
+        (λ b w h c. fifo-adds (r .regs) (r .before .memory) b w h 1 i c) emptyBook _ (begins r) (r .calls) (each r)
+    of-fifo (suc (suc k)) i = absurd (omega arith)

@@ -2,7 +2,7 @@
 use Prim.Native.Nat.{ℕ, _≤_, _<_}
 use mathlib.Core.Path.{_≡_}
 use mathlib.Core.Bool.{Bool, true, false, _&&_}
-use mathlib.Core.List.{List, [], _∷_, _++_, map}
+use mathlib.Core.List.{List, _∷_, _++_, map, reverse}
 use lib.Dec.{eqb}
 use lib.ListN.{length}
 use Rattle.words.specs.Ranges.{SameIn}
@@ -20,7 +20,7 @@ use Rattle.handler.specs.Calls.{Call, given, Answer, start, requestDedicated, r
 use Rattle.handler.specs.Calls.{step}
 use Rattle.history.specs.Books.{Book, emptyBook, fifoLedger, note}
 use Rattle.history.specs.Expected.{expect}
-use Rattle.history.specs.Meant.{wordsOf, meant}
+use Rattle.history.specs.Meant.{wordsOf, toThisFifo, toBuffers, meant}
 use Rattle.history.specs.Standing.{BookAgrees}
 
 -- ---- calls, and their last accepted start
@@ -78,14 +78,16 @@ pub record LastStart (w : World) (calls : List Call) : Type 0 where
 abbrev pub Stands : Run → Type 0
 Stands r = BookAgrees (r .regs) (r .before .memory) (bookOf r) (now r .state) (now r .memory)
 
--- the frames in a FIFO's book are exactly those that the filters or the rule for no match sent there, in order: worked
--- out from the registers and filter words of the start and the new-data bits that the history gives at that moment, and
--- not from the answer
-abbrev pub Meant : Run → Type 0
-Meant r =
-    (fifo : ℕ) → fifo ≤ 1
-    → map wordsOf (fifoLedger (bookOf r) fifo .arrived)
-    ≡ meant (r .regs) (r .before .memory) fifo emptyBook (history r)
+-- the frames in the book are exactly those that the filters or the rule for no match sent there, in order: worked out
+-- from the registers and filter words of the start and the new-data bits that the history gives at that moment, and not
+-- from the answer
+pub record Meant (r : Run) : Type 0 where
+  pub fifos : (fifo : ℕ) → fifo ≤ 1
+      → map wordsOf (fifoLedger (bookOf r) fifo .arrived)
+      ≡ meant (toThisFifo (r .regs) fifo) (r .regs) (r .before .memory) emptyBook (history r)
+  -- the book has the latest first
+  pub buffers :
+      reverse (bookOf r .buffered) ≡ meant (toBuffers (r .regs)) (r .regs) (r .before .memory) emptyBook (history r)
 
 -- all that every call tells can be told from the history, the inputs and the start
 abbrev pub Answers : Run → Type 0

@@ -1,50 +1,61 @@
--- The frames that the rules send to a FIFO: by the filters and the rule for no match, not by the answers.
+-- The frames that the rules send to a FIFO or an Rx buffer: by the filters and the rule for no match, not by the answers.
 use Prim.Native.Nat.{ℕ}
 use mathlib.Core.List.{List, [], _∷_, _++_}
 use lib.Dec.{eqb}
 use Rattle.words.specs.Choice.{pick}
 use Rattle.frame.specs.declared.Frame.{Frame}
+use Rattle.frame.specs.declared.Matched.the-variants.{Filter}
 use Rattle.registers.specs.declared.Registers.{Registers}
 use Rattle.filter.specs.Destination.{Goes, toFifo, toBuffer, discarded, destination}
-use Rattle.areas.specs.Areas.{fifoArea}
+use Rattle.areas.specs.Areas.{fifoArea, bufferArea}
 use Rattle.shape.specs.Histories.{Told, noted}
 use Rattle.books.specs.Ledgers.{Entry}
 use Rattle.handler.specs.Calls.{Call, start, receive, readFifo, acknowledgeFifo, readBuffer, releaseBuffer}
 use Rattle.handler.specs.Calls.{requestDedicated, requestShared, cancel, askChoice, reportSent, readEvent}
 use Rattle.handler.specs.Calls.{acknowledgeEvent, clearFlags, reportStatus, Answer}
-use Rattle.history.specs.Books.{Book, frameIn, note}
+use Rattle.history.specs.Books.{InRxBuffer, Book, frameIn, note}
 
 abbrev pub wordsOf : Entry → List ℕ
 wordsOf e = e .words
 
--- a frame that goes somewhere: the words of its element where that is this FIFO, else none
-abbrev pub goingTo : Registers → ℕ → Frame → List ℕ → ℕ → Goes → List (List ℕ)
-goingTo g fifo f d time (toFifo k priority m) = pick (eqb k fifo) (frameIn (fifoArea g fifo) f d time m ∷ []) []
-goingTo g fifo f d time (toBuffer buffer i) = []
-goingTo g fifo f d time (discarded why m) = []
+-- what a frame with its data and timestamp brings somewhere, by where it goes
+abbrev pub Brings : Type 0 → Type 0
+Brings A = Frame → List ℕ → ℕ → Goes → List A
 
--- by call: a receive goes where its frame is destined, by the filter words of the memory at the start and the new-data
--- bits of the book
-abbrev pub meantBy : Registers → List ℕ → ℕ → Book → Call → List (List ℕ)
-meantBy g began fifo b (start regs) = []
-meantBy g began fifo b (receive f d time) = goingTo g fifo f d time (destination g began f (b .newdata))
-meantBy g began fifo b (readFifo from place out) = []
-meantBy g began fifo b (acknowledgeFifo of place) = []
-meantBy g began fifo b (readBuffer buffer out) = []
-meantBy g began fifo b (releaseBuffer buffer) = []
-meantBy g began fifo b (requestDedicated buffer h d) = []
-meantBy g began fifo b (requestShared h d) = []
-meantBy g began fifo b (cancel buffer) = []
-meantBy g began fifo b (askChoice passive out) = []
-meantBy g began fifo b (reportSent buffer passive time) = []
-meantBy g began fifo b (readEvent place) = []
-meantBy g began fifo b (acknowledgeEvent place) = []
-meantBy g began fifo b (clearFlags mask) = []
-meantBy g began fifo b reportStatus = []
+-- to a FIFO: the words of its element
+abbrev pub toThisFifo : Registers → ℕ → Brings (List ℕ)
+toThisFifo g fifo f d time (toFifo k priority m) = pick (eqb k fifo) (frameIn (fifoArea g fifo) f d time m ∷ []) []
+toThisFifo g fifo f d time (toBuffer buffer i) = []
+toThisFifo g fifo f d time (discarded why m) = []
 
--- of a history from a book on, all in order; a refused call sends nothing
-abbrev pub meant : Registers → List ℕ → ℕ → Book → List ((c : Call) × Told (Answer c)) → List (List ℕ)
-meant g began fifo b [] = []
-meant g began fifo b (t ∷ ts) =
-    noted [] (λ a. meantBy g began fifo b (t .0)) (t .1 .says)
-    ++ meant g began fifo (note g b (t .0) (t .1 .says)) ts
+-- to the Rx buffers: the buffer's number, and the words
+abbrev pub toBuffers : Registers → Brings InRxBuffer
+toBuffers g f d time (toFifo k priority m) = []
+toBuffers g f d time (toBuffer buffer i) =
+    record { buffer = buffer; words = frameIn (bufferArea g) f d time (Filter i) } ∷ []
+toBuffers g f d time (discarded why m) = []
+
+module _ {A : Type 0} (brings : Brings A) (g : Registers) (began : List ℕ) where
+  -- by call: a frame that is received goes where it is destined, by the filter words of the memory at the start and the
+  -- new-data bits of the book
+  abbrev pub meantBy : Book → Call → List A
+  meantBy b (start regs) = []
+  meantBy b (receive f d time) = brings f d time (destination g began f (b .newdata))
+  meantBy b (readFifo fifo place out) = []
+  meantBy b (acknowledgeFifo fifo place) = []
+  meantBy b (readBuffer buffer out) = []
+  meantBy b (releaseBuffer buffer) = []
+  meantBy b (requestDedicated buffer h d) = []
+  meantBy b (requestShared h d) = []
+  meantBy b (cancel buffer) = []
+  meantBy b (askChoice passive out) = []
+  meantBy b (reportSent buffer passive time) = []
+  meantBy b (readEvent place) = []
+  meantBy b (acknowledgeEvent place) = []
+  meantBy b (clearFlags mask) = []
+  meantBy b reportStatus = []
+
+  -- of a history from a book on, all in order; a refused call brings nothing
+  abbrev pub meant : Book → List ((c : Call) × Told (Answer c)) → List A
+  meant b [] = []
+  meant b (t ∷ ts) = noted [] (λ a. meantBy b (t .0)) (t .1 .says) ++ meant (note g b (t .0) (t .1 .says)) ts
