@@ -145,7 +145,8 @@ module _ {R : Type 0} where
             let own = eqb-true (x .buffer) (e .buffer) (its-own (all ++ e ∷ []) (e .buffer) x t) in
             let here : tally (isLater x) (e ∷ []) ≡ 1 =
             rw (tally-one, eq-eqb (e .buffer) (x .buffer) (sym own), y) refl in
-            absurd (omega (arith, here, tally-append (isLater x) all (e ∷ []), none-after (all ++ e ∷ []) (e .buffer) x t))
+            let none = none-after (all ++ e ∷ []) (e .buffer) x t in
+            absurd (omega (arith, here, tally-append (isLater x) all (e ∷ []), none))
         go false n = le-leb (e .number) (x .number) (ltb-false (x .number) (e .number) n)
 
 -- no bit is set past a word's width
@@ -179,7 +180,8 @@ module _ {R : Type 0} (l : RequestBook R) (sent cancelled : ℕ) (h : BitsTell l
             → tally (isLatest (l .requested ++ acceptedIn l b q ∷ []) k) these ≡ bit (withoutBit n word b) k
         go true y u g =
             let none = under 0 (length all) all (balanced .numbered) (omega arith) in
-            let few = tally-le (isLatest (all ++ e ∷ []) b) (λ x. leb (length all) (x .number)) (latest-gone all e) these in
+            let few = tally-le (isLatest (all ++ e ∷ []) b) (λ x. leb (length all) (x .number)) (latest-gone all e)
+            these in
             rw (← eqb-true b k y, cleared-same n word b inside)
             (omega (arith, few, sub (λ x. leb (length all) (x .number)), none))
         go false y true g =
@@ -206,7 +208,8 @@ module _ {R : Type 0} (l : RequestBook R) (sent cancelled : ℕ) (h : BitsTell l
           (λ x n t. latest-kept all e (x .buffer) (λ f. eqb-false (x .buffer) b n (sym f)) x ∙ t) (h .pending))
           (is-latest (all ++ e ∷ []) b e (eq-eqb b b refl)
           (none-later e 0 (all ++ e ∷ [])
-          (numbered-snoc acceptedNumber 0 all e (balanced .numbered) (omega arith)) (omega (arith, length-snoc all e))));
+          (numbered-snoc acceptedNumber 0 all e (balanced .numbered) (omega arith))
+          (omega (arith, length-snoc all e))));
     }
 
   -- ---- the pending one of a buffer goes
@@ -220,7 +223,8 @@ module _ {R : Type 0} (l : RequestBook R) (sent cancelled : ℕ) (h : BitsTell l
     goes =
         let latest =
         each-two (λ x. isBuffer b x ≡ true) (λ x. isLatest all (x .buffer) x ≡ true) (λ x. isLatest all b x ≡ true) gone
-        (λ x t u. ap (λ (k : ℕ). isLatest all k x) (sym (eqb-true (x .buffer) b t)) ∙ u) (each-passes (isBuffer b) (l .pending))
+        (λ x t u. ap (λ (k : ℕ). isLatest all k x) (sym (eqb-true (x .buffer) b t)) ∙ u)
+        (each-passes (isBuffer b) (l .pending))
         (each-those (isBuffer b) (λ x. isLatest all (x .buffer) x ≡ true) (l .pending) (h .pending)) in
         omega (
           arith,
@@ -233,7 +237,8 @@ module _ {R : Type 0} (l : RequestBook R) (sent cancelled : ℕ) (h : BitsTell l
     part-set : (these : List (Accepted R)) (word : ℕ)
         → ((t : Accepted R → Bool) → tally t (l .pending) + tally t these ≤ tally t (l .requested))
         → LatestAre l these word
-        → (k : ℕ) → tally (isLatest (l .requested) k) (these ++ those (isBuffer b) (l .pending)) ≡ bit (withBit word b) k
+        → (k : ℕ)
+        → tally (isLatest (l .requested) k) (these ++ those (isBuffer b) (l .pending)) ≡ bit (withBit word b) k
     part-set these word sub was k = go (eqb b k) refl
       where
         go : (t : Bool) → eqb b k ≡ t

@@ -19,7 +19,8 @@ module _ {W Book Call : Type 0} {Answer : Call → Type 0} (step : W → (c : Ca
 
   pub run-foretold : (expect : (b : Book) (c : Call) → Told (Answer c))
       → ((b : Book) (w : W) (c : Call) → Inv b w → told (step w c) ≡ expect b c)
-      → (b : Book) (w : W) (cs : List Call) → Each Given (trace step w cs) → Inv b w → trace step w cs ≡ foretold note expect b cs
+      → (b : Book) (w : W) (cs : List Call) → Each Given (trace step w cs) → Inv b w
+      → trace step w cs ≡ foretold note expect b cs
   run-foretold expect tells b w [] g h = refl
   run-foretold expect tells b w (c ∷ cs) g h =
       rw (← tells b w c h)

@@ -32,7 +32,8 @@ use Rattle.books.specs.Lists.{Each}
 use Rattle.handler.specs.Calls.{Call, start, receive, readFifo, acknowledgeFifo, readBuffer, releaseBuffer}
 use Rattle.handler.specs.Calls.{requestDedicated, requestShared, cancel, askChoice, reportSent, readEvent}
 use Rattle.handler.specs.Calls.{acknowledgeEvent, clearFlags, reportStatus, Answer, step}
-use Rattle.history.specs.Books.{InRxBuffer, Book, emptyBook, fifoLedger, withFifoLedger, frameIn, noteFifo, noteFate, added, note}
+use Rattle.history.specs.Books.{InRxBuffer, Book, emptyBook, fifoLedger, withFifoLedger, frameIn, noteFifo}
+use Rattle.history.specs.Books.{noteFate, added, note}
 use Rattle.history.specs.Demand3.{Run, history, bookOf, Meant}
 use Rattle.history.specs.Expected.{fateOf, expectReceive}
 use Rattle.history.specs.Meant.{wordsOf, Brings, toThisFifo, toBuffers, meantBy, meant}
@@ -143,8 +144,8 @@ module _ {A : Type 0} (g : Registers) (began : List ℕ) (seen : Book → List A
       (λ e. adds goes within))
 
   -- one that is no receive
-  quiet-adds : (b : Book) (c : Call) → meantBy brings g began b c ≡ [] → ((a : Answer c) → seen (added g b c a) ≡ seen b)
-      → (x : Says (Answer c)) → Adds b c x
+  quiet-adds : (b : Book) (c : Call) → meantBy brings g began b c ≡ []
+      → ((a : Answer c) → seen (added g b c a) ≡ seen b) → (x : Says (Answer c)) → Adds b c x
   quiet-adds b c none same x =
       none-noted b (added g b c) seen same x ∙ ap (λ (xs : List A). seen b ++ noted [] (λ a. xs) x) (sym none)
 

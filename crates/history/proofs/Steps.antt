@@ -94,7 +94,8 @@ module _ (began : List ℕ) (b : Book) (w : World) (fit : isUnfit w ≡ false)
   kept-here (acknowledgeFifo fifo place) i = acknowledge-kept began b w fit h fifo place
   kept-here (readBuffer buffer out) i = same-kept (readBuffer buffer out) h
   kept-here (releaseBuffer buffer) i = release-buffer-kept began b w fit h buffer
-  kept-here (requestDedicated buffer q d) i = dedicated-kept began b w fit h q d (i .0 .dedicated buffer q d refl) buffer
+  kept-here (requestDedicated buffer q d) i =
+      dedicated-kept began b w fit h q d (i .0 .dedicated buffer q d refl) buffer
   kept-here (requestShared q d) i = shared-kept began b w fit h q d (i .0 .shared q d refl)
   kept-here (cancel buffer) i = cancel-kept began b w fit h buffer
   kept-here (askChoice passive out) i = same-kept (askChoice passive out) h
@@ -115,7 +116,8 @@ module _ (g : Registers) (began : List ℕ) (b : Book) (w : World) (h : Standing
       subst (λ (x : Registers). told (step w c) ≡ expect x began b c) (h .agreed .regs)
       (told-here began b w (h .fit) own-agreed c)
 
-  pub step-kept : (c : Call) → InRun (c, told (step w c)) → Standing g began (note g b c (step w c .says)) (step w c .world)
+  pub step-kept : (c : Call) → InRun (c, told (step w c))
+      → Standing g began (note g b c (step w c .says)) (step w c .world)
   step-kept c i = record {
     fit = fit-after-any-calls (c ∷ []) w (h .fit);
     agreed =

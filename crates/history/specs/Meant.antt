@@ -1,4 +1,4 @@
--- The frames that the rules send to a FIFO or an Rx buffer: by the filters and the rule for no match, not by the answers.
+-- The frames that the rules send to a FIFO or an Rx buffer: by the filters and the rule for no match, not by answers.
 use Prim.Native.Nat.{ℕ}
 use mathlib.Core.List.{List, [], _∷_, _++_}
 use lib.Dec.{eqb}

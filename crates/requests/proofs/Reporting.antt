@@ -193,7 +193,8 @@ module _ (l : Book) (w : World) (i : InStep l w) (b : ℕ) (below : b < txCount 
         agrees =
             elsewhere-agrees g (noteSent l b) (sentState s b) mem sent-agrees (room-in l w i) (next .state)
             (next .memory)
-            refl refl refl refl (only-apart (areaRange (txArea g)) (areaRange (eventArea g)) mem (next .memory) kept apart);
+            refl refl refl refl
+            (only-apart (areaRange (txArea g)) (areaRange (eventArea g)) mem (next .memory) kept apart);
         state = record { regs = refl; fifo0 = refl; fifo1 = refl; newdata = refl };
         memory = kept;
       }

@@ -40,7 +40,8 @@ ElsewhereAgrees =
     (g : Registers) (l : Book) (s : State) (mem : List ℕ) → TxAgrees g l s mem
     → areaEnd (txArea g) ≤ length mem
     → (next : State) (other : List ℕ) → next .pending ≡ s .pending → next .shared ≡ s .shared
-    → next .sent ≡ s .sent → next .cancelled ≡ s .cancelled → SameIn (areaRange (txArea g)) mem other → TxAgrees g l next other
+    → next .sent ≡ s .sent → next .cancelled ≡ s .cancelled → SameIn (areaRange (txArea g)) mem other
+    → TxAgrees g l next other
 
 -- ---- requests
 
