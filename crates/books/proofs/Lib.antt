@@ -10,3 +10,4 @@ pub mod Runs
 pub mod Requests
 pub mod Buffers
 pub mod Circles
+pub mod Latest

@@ -1,7 +1,10 @@
--- That buffers hold exactly the pending requests: by bits, word for word in the memory, and shared ones in a circle.
+-- That buffers hold exactly the pending requests: by bits, word for word in the memory, and shared ones in a circle;
+-- and that sent and cancelled bits tell what became of each buffer's latest request.
 use Prim.Native.Nat.{ℕ, _+_, _%_, _<_}
 use mathlib.Core.Path.{_≡_}
+use mathlib.Core.Bool.{Bool, true, _&&_}
 use mathlib.Core.List.{List, map}
+use lib.Dec.{eqb, ltb}
 use Rattle.words.specs.Bits.{bit}
 use Rattle.words.specs.Runs.{run}
 use Rattle.ring.specs.Rings.{Fit, placeAfter, putPlace}
@@ -33,3 +36,26 @@ module _ {R : Type 0} where
     -- how many it ever accepted tells the next one's place
     pub next : putPlace ring size ≡ tally (isShared first) (l .requested) % size
     pub order : SentInOrder first l
+
+  -- ---- the latest request of each buffer
+
+  -- x came after e, in the same buffer
+  abbrev pub isLater : Accepted R → Accepted R → Bool
+  isLater e x = isBuffer (e .buffer) x && ltb (e .number) (x .number)
+
+  -- e is the latest request of a buffer: it is that buffer's, and of all those accepted none that is came after it
+  unfoldable pub isLatest : List (Accepted R) → ℕ → Accepted R → Bool
+  isLatest all buffer e = isBuffer buffer e && eqb (tally (isLater e) all) 0
+
+  -- bit b of a word is set exactly where the latest request of buffer b is one of these: how many of them are it, one
+  -- or none
+  abbrev pub LatestAre : RequestBook R → List (Accepted R) → ℕ → Type 0
+  LatestAre l these word = (b : ℕ) → tally (isLatest (l .requested) b) these ≡ bit word b
+
+  -- the sent bit of a buffer is 1 exactly where its latest request was sent, the cancelled bit exactly where it was
+  -- cancelled
+  pub record BitsTell (l : RequestBook R) (sentWord cancelledWord : ℕ) : Type 0 where
+    pub sent : LatestAre l (l .sent) sentWord
+    pub cancelled : LatestAre l (l .cancelled) cancelledWord
+    -- where one is pending it is the latest, so both bits are 0
+    pub pending : Each (λ e. isLatest (l .requested) (e .buffer) e ≡ true) (l .pending)

@@ -1,7 +1,7 @@
 -- What is promised of the books: they balance, tell what the rules answer, and agree after each step. Statements only.
 use Prim.Native.Nat.{ℕ, _+_, _-_, _%_, _^_, _≤_, _<_}
 use mathlib.Core.Path.{_≡_}
-use mathlib.Core.Bool.{Bool, true, _&&_}
+use mathlib.Core.Bool.{Bool, true, false, _&&_}
 use mathlib.Core.List.{List, [], _∷_, _++_}
 use lib.Dec.{eqb, ltb}
 use lib.ListN.{length}
@@ -21,7 +21,7 @@ use Rattle.books.specs.Requests.{Accepted, RequestBook, emptyRequests, i
 use Rattle.books.specs.Requests.{noteRequest, noteCancel, noteSent, hasPending, pendingIn}
 use Rattle.books.specs.Balance.{Balanced, RequestsBalanced}
 use Rattle.books.specs.Standing.{RingAgrees}
-use Rattle.books.specs.Pending.{BuffersHold, CircleAgrees}
+use Rattle.books.specs.Pending.{BuffersHold, CircleAgrees, BitsTell}
 
 -- ==== the book of a ring
 
@@ -218,3 +218,26 @@ OldestFirst =
     → (buffer : ℕ) → first ≤ buffer
     → (ltb 0 (ring .fill) && eqb buffer (first + ring .oldest))
     ≡ (hasPending l buffer && eqb (oldestWaiting first l) buffer)
+
+-- ---- the sent and cancelled bits: a request clears its buffer's, in words of as many bits as there are buffers or
+-- more; a send and a cancel set their own
+
+abbrev pub NoBits : Type 1
+NoBits = (R : Type 0) → BitsTell (emptyRequests {R = R}) 0 0
+
+abbrev pub RequestClearsBits : Type 1
+RequestClearsBits =
+    (R : Type 0) (l : RequestBook R) (sent cancelled : ℕ) → BitsTell l sent cancelled → RequestsBalanced l
+    → (bits : ℕ) → sent < 2 ^ bits → cancelled < 2 ^ bits
+    → (q : R) (buffer : ℕ) → buffer < bits → hasPending l buffer ≡ false
+    → BitsTell (noteRequest l q buffer) (withoutBit bits sent buffer) (withoutBit bits cancelled buffer)
+
+abbrev pub SendSetsBit : Type 1
+SendSetsBit =
+    (R : Type 0) (l : RequestBook R) (sent cancelled : ℕ) → BitsTell l sent cancelled → RequestsBalanced l
+    → (buffer : ℕ) → hasPending l buffer ≡ true → BitsTell (noteSent l buffer) (withBit sent buffer) cancelled
+
+abbrev pub CancelSetsBit : Type 1
+CancelSetsBit =
+    (R : Type 0) (l : RequestBook R) (sent cancelled : ℕ) → BitsTell l sent cancelled → RequestsBalanced l
+    → (buffer : ℕ) → hasPending l buffer ≡ true → BitsTell (noteCancel l buffer) sent (withBit cancelled buffer)

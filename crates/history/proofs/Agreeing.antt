@@ -59,9 +59,10 @@ module _ (g : Registers) (mem next : List ℕ) (legal : Legal memoryWords g (len
   }
 
   pub requests-elsewhere : i < 4 → (l : Requests.Book) (s after : State) → after .pending ≡ s .pending
-      → after .shared ≡ s .shared → TxAgrees g l s mem → TxAgrees g l after next
-  requests-elsewhere h l s after p q t =
-      elsewhere-agrees g l s mem t (tx-roomy g (length mem) legal .room) after next p q
+      → after .shared ≡ s .shared → after .sent ≡ s .sent → after .cancelled ≡ s .cancelled → TxAgrees g l s mem
+      → TxAgrees g l after next
+  requests-elsewhere h l s after p q sent cancelled t =
+      elsewhere-agrees g l s mem t (tx-roomy g (length mem) legal .room) after next p q sent cancelled
       (only-apart (areaRange (own g 4)) (areaRange (own g i)) mem next kept
       (own-apart g (length mem) legal i 4 own-i (omega arith) (λ e. omega arith)))
 
@@ -82,7 +83,7 @@ module _ (g : Registers) (began : List ℕ) (b : Book) (s : State) (mem : List �
             ring-elsewhere g mem next legal fifo (omega arith) kept 3 (omega arith) (λ e. omega arith) _ _ (h .events);
         requests =
             requests-elsewhere g mem next legal fifo (omega arith) kept (omega arith) (b .requests) s
-            (withFifo s fifo q) refl refl (h .requests);
+            (withFifo s fifo q) refl refl refl refl (h .requests);
         newdata = h .newdata;
         buffers = buffers-elsewhere g mem next legal fifo (omega arith) kept (λ e. omega arith) _ _ (h .buffers);
         rest = rest-kept g began mem (h .rest) fifo (omega arith) next kept;
@@ -114,7 +115,7 @@ module _ (g : Registers) (began : List ℕ) (b : Book) (s : State) (mem : List �
     events = ring-elsewhere g mem next legal 2 (omega arith) kept 3 (omega arith) (λ e. omega arith) _ _ (h .events);
     requests =
         requests-elsewhere g mem next legal 2 (omega arith) kept (omega arith) (b .requests) s (withNewData s newdata)
-        refl refl (h .requests);
+        refl refl refl refl (h .requests);
     newdata = refl;
     buffers = r;
     rest = rest-kept g began mem (h .rest) 2 (omega arith) next kept;

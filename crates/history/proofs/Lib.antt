@@ -8,3 +8,5 @@ pub mod Status
 pub mod Steps
 pub mod Runs
 pub mod NeverUnfit
+pub mod Meaning
+pub mod Vanishing

@@ -17,7 +17,7 @@ use Rattle.books.specs.Lists.{Each}
 use Rattle.handler.specs.Calls.{Call, Given, given}
 use Rattle.handler.specs.Rows.{isAmong, naming, row, allButStart, rows}
 use Rattle.handler.proofs.Exact.{refusals-are-exact}
-use Rattle.history.specs.Demand3.{now, Never20}
+use Rattle.history.specs.Demand3.{Run, now, Never20}
 use Rattle.history.proofs.Runs.{standing}
 
 -- a row that does not refuse with 20
@@ -118,7 +118,7 @@ rows-none w c fit = (
   ),
 )
 
-pub never-20 : Never20
+pub never-20 : (r : Run) → Never20 r
 never-20 r c a e q =
     let w = now r in
     none-gives (rows w c) (rows-none w c (standing r .fit)) a

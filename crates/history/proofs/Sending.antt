@@ -197,7 +197,7 @@ module _ (began : List ℕ) (b : Book) (w : World) (fit : isUnfit w ≡ false)
         (noteRelease (b .events) place) l
         (release-agrees a (b .events) (w .state .events) mem (h .events) place (event-open w place e .holds .holds))
         (requests-elsewhere g mem mem legal 3 (omega arith) kept (omega arith) l (w .state)
-        (releasedEvents (w .state) place) refl refl (h .requests)))
+        (releasedEvents (w .state) place) refl refl refl refl (h .requests)))
 
     pub read-event-told : told (Events.readEvent w place) ≡ expect g began b (readEvent place)
     unfolding eventRefusals eventAt expectReadEvent

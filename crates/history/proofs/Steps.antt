@@ -1,14 +1,14 @@
 -- One call: the book tells what it tells, and agrees with the world after it.
 -- Assumes nothing.
 use Prim.Native.Nat.{ℕ}
-use mathlib.Core.Path.{_≡_, refl, sym, ap, _∙_, subst}
+use mathlib.Core.Path.{_≡_, refl, sym, ap, subst}
 use mathlib.Core.Bool.{false, true≢false}
 use mathlib.Core.List.{List, [], _∷_}
 use lib.ListN.{length}
-use Rattle.words.specs.Rules.{allowed, first, isAllowed}
+use Rattle.words.specs.Rules.{first}
 use Rattle.registers.specs.declared.Registers.{Registers}
 use Rattle.layout.specs.Sections.{memoryWords}
-use Rattle.layout.specs.Verdict.{verdict, rules}
+use Rattle.layout.specs.Verdict.{rules}
 use Rattle.shape.specs.Calls.{leaves, effected}
 use Rattle.shape.specs.Histories.{told}
 use Rattle.shape.proofs.Calls.{call-cases}
@@ -16,7 +16,6 @@ use Rattle.engine.specs.Calls.{World, withRecorded, Outcome, isUnfit}
 use Rattle.engine.specs.Flags.{cleared}
 use Rattle.starting.specs.Starting
 use Rattle.starting.specs.Starting.{unreported, starts}
-use Rattle.starting.proofs.Fits.{start-ruled}
 use Rattle.taking.specs.Reading.{reads}
 use Rattle.choosing.specs.Choosing.{chooses}
 use Rattle.overview.specs.Overview.{overviewRefusals}
@@ -30,7 +29,7 @@ use Rattle.handler.specs.Calls.{acknowledgeEvent, clearFlags, reportStatus, Ans
 use Rattle.handler.proofs.Exact.{does, step-cases}
 use Rattle.handler.proofs.StillFit.{fit-after-any-calls}
 use Rattle.history.specs.Books.{Book, note}
-use Rattle.history.specs.Demand3.{InRun}
+use Rattle.history.specs.Demand3.{InTypes, Made, isStarted}
 use Rattle.history.specs.Expected.{expect}
 use Rattle.history.specs.Standing.{BookAgrees}
 use Rattle.history.proofs.Receiving.{receive-told, receive-kept, acknowledge-told, acknowledge-kept}
@@ -38,6 +37,10 @@ use Rattle.history.proofs.Receiving.{read-fifo-told, release-buffer-tol
 use Rattle.history.proofs.Sending.{in-step, dedicated-kept, shared-kept, cancel-kept, report-kept}
 use Rattle.history.proofs.Sending.{acknowledge-event-told, acknowledge-event-kept, read-event-told}
 use Rattle.history.proofs.Status.{status-told}
+
+-- a call of a run: given what is of its types, and no accepted start
+abbrev pub InRun : Made → Type 0
+InRun t = InTypes (t .0) × (isStarted t ≡ false)
 
 -- a fit world that the book agrees with
 pub record Standing (g : Registers) (began : List ℕ) (b : Book) (w : World) : Type 0 where
@@ -72,29 +75,28 @@ module _ (began : List ℕ) (b : Book) (w : World) (fit : isUnfit w ≡ false)
       BookAgrees (w .state .regs) began (note (w .state .regs) b c (o .says)) (o .world .state) (o .world .memory)
 
   -- a start that is refused changes nothing
-  start-kept : (g : Registers) → isAllowed (verdict memoryWords g (length began)) ≡ false
+  start-kept : (g : Registers) → isStarted (start g, told (Starting.start w g)) ≡ false
       → Kept (start g) (Starting.start w g)
-  start-kept g turned =
-      call-cases w unreported (rules memoryWords g (length (w .memory))) (starts w g) (Kept (start g)) (λ n. h)
-      (λ e.
-      let yes : verdict memoryWords g (length began) ≡ allowed
-      = ap (verdict memoryWords g) (sym (h .rest .size)) ∙ sym (start-ruled g (length (w .memory))) ∙ e in
-      absurd (true≢false (ap isAllowed (sym yes) ∙ turned)))
+  start-kept g =
+      call-cases w unreported (rules memoryWords g (length (w .memory))) (starts w g)
+      (λ (o : Outcome (Unit {0})). isStarted (start g, told o) ≡ false → Kept (start g) o) (λ n turned. h)
+      (λ e turned. absurd (true≢false turned))
 
   -- nor does a call whose effect changes nothing that the book tells of
   same-kept : (c : Call) → Kept c (effected (does w c)) → Kept c (step w c)
   same-kept c k = step-cases w c (Kept c) (λ n. h) (λ e. k)
 
-  kept-here : (c : Call) → InRun (length began) c → Kept c (step w c)
+  kept-here : (c : Call) → InRun (c, told (step w c)) → Kept c (step w c)
   unfolding reads chooses
-  kept-here (start g) i = start-kept g (i .refused g refl)
+  kept-here (start g) i = start-kept g (i .1)
   kept-here (receive f d time) i = receive-kept began b w fit h f d time
   kept-here (readFifo fifo place out) i = same-kept (readFifo fifo place out) h
   kept-here (acknowledgeFifo fifo place) i = acknowledge-kept began b w fit h fifo place
   kept-here (readBuffer buffer out) i = same-kept (readBuffer buffer out) h
   kept-here (releaseBuffer buffer) i = release-buffer-kept began b w fit h buffer
-  kept-here (requestDedicated buffer q d) i = dedicated-kept began b w fit h q d (i .dedicated buffer q d refl) buffer
-  kept-here (requestShared q d) i = shared-kept began b w fit h q d (i .shared q d refl)
+  kept-here (requestDedicated buffer q d) i =
+      dedicated-kept began b w fit h q d (i .0 .dedicated buffer q d refl) buffer
+  kept-here (requestShared q d) i = shared-kept began b w fit h q d (i .0 .shared q d refl)
   kept-here (cancel buffer) i = cancel-kept began b w fit h buffer
   kept-here (askChoice passive out) i = same-kept (askChoice passive out) h
   kept-here (reportSent buffer passive time) i = report-kept began b w fit h buffer passive time
@@ -114,7 +116,8 @@ module _ (g : Registers) (began : List ℕ) (b : Book) (w : World) (h : Standing
       subst (λ (x : Registers). told (step w c) ≡ expect x began b c) (h .agreed .regs)
       (told-here began b w (h .fit) own-agreed c)
 
-  pub step-kept : (c : Call) → InRun (length began) c → Standing g began (note g b c (step w c .says)) (step w c .world)
+  pub step-kept : (c : Call) → InRun (c, told (step w c))
+      → Standing g began (note g b c (step w c .says)) (step w c .world)
   step-kept c i = record {
     fit = fit-after-any-calls (c ∷ []) w (h .fit);
     agreed =

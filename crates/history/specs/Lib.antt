@@ -1,4 +1,5 @@
 pub mod Books
 pub mod Standing
 pub mod Expected
+pub mod Meant
 pub mod Demand3

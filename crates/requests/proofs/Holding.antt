@@ -4,8 +4,10 @@ use Prim.Native.Nat.{ℕ, _+_, _^_, _≤_, _<_}
 use mathlib.Core.Path.{_≡_, refl, sym, ap, _∙_, subst}
 use mathlib.Core.Bool.{Bool, true, false, not}
 use mathlib.Core.List.{List}
+use native.Mathlib.Nat.{lt-of-lt-of-le}
 use native.Mathlib.Omega.{arith}
 use lib.ListN.{length}
+use lib.Pow.{pow-mono}
 use Rattle.words.specs.Bits.{bit, isSet, withBit, withoutBit}
 use Rattle.words.specs.Runs.{part, splice}
 use Rattle.words.proofs.Ranges.{only-none}
@@ -34,11 +36,12 @@ use Rattle.engine.proofs.Cases.{queue-ring, fifo-ring}
 use Rattle.engine.proofs.Sounds.{sound-of}
 use Rattle.books.specs.Balance.{RequestsBalanced}
 use Rattle.books.specs.Lists.{others}
-use Rattle.books.specs.Pending.{CircleAgrees}
+use Rattle.books.specs.Pending.{CircleAgrees, BitsTell}
 use Rattle.books.specs.Requests.{Accepted, isBuffer, acceptedIn, noteRequest, hasPending}
 use Rattle.books.proofs.Buffers.{none-pending, buffers-elsewhere, buffer-filled, buffer-cleared}
 use Rattle.books.proofs.Buffers.{pending-told, pending-has, pending-words, pending-below}
 use Rattle.books.proofs.Circles.{none-waits, circle-held}
+use Rattle.books.proofs.Latest.{no-bits}
 use Rattle.books.proofs.Lists.{each-snoc, each-those}
 use Rattle.books.proofs.Requests.{no-request-balances, request-balances}
 use Rattle.requests.specs.Requests.{Request, Sendable, Book, noRequest, requestIn}
@@ -56,16 +59,17 @@ element-each g q =
 
 -- nothing pending
 pub start-agrees : StartAgrees
-start-agrees g s mem p e = record {
+start-agrees g s mem p e sent cancelled = record {
   buffers = rw p (none-pending Request (txArea g) (elementOf g) mem);
   sendable = tt;
   fifo = λ f. rw e (none-waits Request (dedicated g) (shared g) (omega arith));
   queue = λ f. e;
   balanced = no-request-balances Request;
+  bits = rw (sent, cancelled) (no-bits Request);
 }
 
 pub elsewhere-agrees : ElsewhereAgrees
-elsewhere-agrees g l s mem h room next other p e same = record {
+elsewhere-agrees g l s mem h room next other p e sent cancelled same = record {
   buffers =
       rw p
       (buffers-elsewhere Request (txArea g) (elementOf g) (l .pending) (s .pending) mem (h .buffers) room other same);
@@ -73,6 +77,7 @@ elsewhere-agrees g l s mem h room next other p e same = record {
   fifo = λ f. rw e (h .fifo f);
   queue = λ f. e ∙ h .queue f;
   balanced = h .balanced;
+  bits = rw (sent, cancelled) (h .bits);
 }
 
 module _ (g : Registers) (l : Book) (s : State) (mem : List ℕ) (h : TxAgrees g l s mem) where
@@ -97,10 +102,10 @@ module _ (g : Registers) (l : Book) (s : State) (mem : List ℕ) (h : TxAgrees g
   pub filled-agrees : areaEnd (txArea g) ≤ length mem → (b : ℕ) → b < txCount g → bit (s .pending) b ≡ 0
       → (q : Request) → Sendable q → (ring : Ring) (sent cancelled : ℕ)
       → (isQueue g ≡ false → CircleAgrees (dedicated g) (shared g) (noteRequest l q b) ring)
-      → (isQueue g ≡ true → ring ≡ noneHeld)
+      → (isQueue g ≡ true → ring ≡ noneHeld) → BitsTell (noteRequest l q b) sent cancelled
       → TxAgrees g (noteRequest l q b) (withTx s ring (withBit (s .pending) b) sent cancelled)
       (splice mem (placeIn (txArea g) b) (elementOf g q))
-  filled-agrees room b inside clear q can ring sent cancelled f e = record {
+  filled-agrees room b inside clear q can ring sent cancelled f e bits = record {
     buffers =
         buffer-filled Request (txArea g) (elementOf g) (l .pending) (s .pending) mem (h .buffers) room
         (acceptedIn l b q) inside clear (element-each g q);
@@ -108,6 +113,7 @@ module _ (g : Registers) (l : Book) (s : State) (mem : List ℕ) (h : TxAgrees g
     fifo = f;
     queue = e;
     balanced = request-balances Request l (h .balanced) q b;
+    bits = bits;
   }
 
   -- ---- one goes, sent or cancelled
@@ -115,8 +121,8 @@ module _ (g : Registers) (l : Book) (s : State) (mem : List ℕ) (h : TxAgrees g
   pub cleared-agrees : txCount g ≤ 32 → (b : ℕ) → b < txCount g → (m : Book)
       → m .pending ≡ others (isBuffer b) (l .pending) → RequestsBalanced m → (ring : Ring) (sent cancelled : ℕ)
       → (isQueue g ≡ false → CircleAgrees (dedicated g) (shared g) m ring) → (isQueue g ≡ true → ring ≡ noneHeld)
-      → TxAgrees g m (withTx s ring (withoutBit 32 (s .pending) b) sent cancelled) mem
-  cleared-agrees few b inside m gone balanced ring sent cancelled f e = record {
+      → BitsTell m sent cancelled → TxAgrees g m (withTx s ring (withoutBit 32 (s .pending) b) sent cancelled) mem
+  cleared-agrees few b inside m gone balanced ring sent cancelled f e bits = record {
     buffers =
         rw gone
         (buffer-cleared Request (txArea g) (elementOf g) (l .pending) (s .pending) mem (h .buffers) 32 few b inside);
@@ -124,6 +130,7 @@ module _ (g : Registers) (l : Book) (s : State) (mem : List ℕ) (h : TxAgrees g
     fifo = f;
     queue = e;
     balanced = balanced;
+    bits = bits;
   }
 
 -- ---- fitness
@@ -172,6 +179,15 @@ module _ (l : Book) (w : World) (i : InStep l w) where
 
   pub few-in : txCount (w .state .regs) ≤ 32
   few-in = legal-in .counted .together
+
+  -- the sent and cancelled words are of 32 bits
+  pub sent-in : w .state .sent < 2 ^ 32
+  sent-in =
+      lt-of-lt-of-le (sound-of (w .state) (w .recorded) (length (w .memory)) (i .fit) .sent) (pow-mono few-in)
+
+  pub cancelled-in : w .state .cancelled < 2 ^ 32
+  cancelled-in =
+      lt-of-lt-of-le (sound-of (w .state) (w .recorded) (length (w .memory)) (i .fit) .cancelled) (pow-mono few-in)
 
   -- a call that is refused leaves all
   pub leaves-all : (a : Area) → Leaves a w l w

@@ -43,9 +43,10 @@ use Rattle.reporting.specs.Reporting.{isChosen, reportRefusals, sharedSent, sen
 use Rattle.reporting.proofs.Calls.{report-cases}
 use Rattle.reporting.proofs.Judgements.{is-chosen, report-open}
 use Rattle.books.specs.Pending.{CircleAgrees}
-use Rattle.books.specs.Requests.{noteSent}
+use Rattle.books.specs.Requests.{noteSent, hasPending}
 use Rattle.books.proofs.Arrivals.{arrival-keeps}
 use Rattle.books.proofs.Circles.{sent-before, sent-oldest}
+use Rattle.books.proofs.Latest.{send-sets-bit}
 use Rattle.books.proofs.Requests.{sent-balances}
 use Rattle.requests.specs.Requests.{Request, asked, Book}
 use Rattle.requests.specs.Expected.{isCandidate, rankIn, bestOf, nextOf, outputOf, expectChoice, expectReport}
@@ -126,7 +127,7 @@ report-due l w i buffer passive time e =
 -- ---- what is left
 
 module _ (l : Book) (w : World) (i : InStep l w) (b : ℕ) (below : b < txCount (w .state .regs))
-    (candidate : Choosing.isCandidate (w .state) b ≡ true) where
+    (candidate : Choosing.isCandidate (w .state) b ≡ true) (one : hasPending l b ≡ true) where
   -- the shared FIFO's circle: its oldest gone, or as it was
   circle : isQueue (w .state .regs) ≡ false
       → CircleAgrees (dedicated (w .state .regs)) (shared (w .state .regs)) (noteSent l b) (sharedSent (w .state) b)
@@ -172,6 +173,7 @@ module _ (l : Book) (w : World) (i : InStep l w) (b : ℕ) (below : b < txCount 
       let beside : inSharedFifo s b ≡ false
       = ap (λ (x : Bool). leb (dedicated (s .regs)) b && not x) y ∙ and-false (leb (dedicated (s .regs)) b) in
       pick-second (released (s .shared) (shared (s .regs)) 1) (s .shared) beside ∙ i .agrees .queue y)
+      (send-sets-bit Request l (s .sent) (s .cancelled) (i .agrees .bits) (i .agrees .balanced) b one)
 
   -- then the event is kept or lost, or none is due
   pub kept-leaves : (marker : ℕ) (f : Frame) (time : ℕ)
@@ -191,7 +193,8 @@ module _ (l : Book) (w : World) (i : InStep l w) (b : ℕ) (below : b < txCount 
         agrees =
             elsewhere-agrees g (noteSent l b) (sentState s b) mem sent-agrees (room-in l w i) (next .state)
             (next .memory)
-            refl refl (only-apart (areaRange (txArea g)) (areaRange (eventArea g)) mem (next .memory) kept apart);
+            refl refl refl refl
+            (only-apart (areaRange (txArea g)) (areaRange (eventArea g)) mem (next .memory) kept apart);
         state = record { regs = refl; fifo0 = refl; fifo1 = refl; newdata = refl };
         memory = kept;
       }
@@ -214,6 +217,7 @@ report-leaves l w i b passive time =
     let best = sym (choice-best l (w .state) (w .memory) (i .agrees)) ∙ o .chosen in
     let one = candidate-told l (w .state) (w .memory) (i .agrees) b
     ∙ best-is l (w .state) (w .memory) (i .agrees) b best .one in
+    let waits = best-pending l (w .state) (w .memory) (i .agrees) b best in
     report-cases w b passive time (Leaves (eventArea (w .state .regs)) w (noteSent l b))
-    (λ y. kept-leaves l w i b (o .within) one _ _ time)
-    (λ n. sent-leaves l w i b (o .within) one))
+    (λ y. kept-leaves l w i b (o .within) one waits _ _ time)
+    (λ n. sent-leaves l w i b (o .within) one waits))

@@ -43,6 +43,7 @@ use Rattle.books.specs.Lists.{tally}
 use Rattle.books.specs.Pending.{CircleAgrees}
 use Rattle.books.specs.Requests.{isShared, noteRequest, noteCancel, hasPending}
 use Rattle.books.proofs.Circles.{requested-before, requested-next, cancelled-before, circle-filled, circle-held}
+use Rattle.books.proofs.Latest.{request-clears-bits, cancel-sets-bit}
 use Rattle.books.proofs.Requests.{cancel-balances}
 use Rattle.requests.specs.Requests.{Request, asked, Typed, Book}
 use Rattle.requests.specs.Expected.{expectDedicated, freeShared, expectShared, expectCancel}
@@ -51,7 +52,7 @@ use Rattle.requests.specs.Promises.{DedicatedTold, DedicatedLeaves, Shar
 use Rattle.requests.specs.Promises.{CancelTold, CancelLeaves}
 use Rattle.requests.proofs.Telling.{told-by}
 use Rattle.requests.proofs.Holding.{element-each, is-pending, filled-agrees, cleared-agrees}
-use Rattle.requests.proofs.Holding.{room-in, few-in, leaves-tx}
+use Rattle.requests.proofs.Holding.{room-in, few-in, sent-in, cancelled-in, leaves-tx}
 
 -- a bit that is not set is 0
 clear-bit : (w b : ℕ) → isSet w b ≡ false → bit w b ≡ 0
@@ -76,7 +77,10 @@ module _ (l : Book) (w : World) (i : InStep l w) where
           agrees =
               filled-agrees g l s (w .memory) (i .agrees) room buffer inside (clear-bit (s .pending) buffer free) q
               (record { formed = well-formed (h .frame) (length d) formed; typed = typed }) ring
-              (withoutBit 32 (s .sent) buffer) (withoutBit 32 (s .cancelled) buffer) fifo queue;
+              (withoutBit 32 (s .sent) buffer) (withoutBit 32 (s .cancelled) buffer) fifo queue
+              (request-clears-bits Request l (s .sent) (s .cancelled) (i .agrees .bits) (i .agrees .balanced) 32
+              (sent-in l w i) (cancelled-in l w i) q buffer (omega (arith, inside, few-in l w i))
+              (is-pending g l s (w .memory) (i .agrees) buffer ∙ free));
           state = record { regs = refl; fifo0 = refl; fifo1 = refl; newdata = refl };
           memory = store-kept (txArea g) (w .memory) room buffer inside (elementOf g q) (element-each g q);
         };
@@ -231,7 +235,9 @@ cancel-leaves l w i buffer =
             (withBit (s .cancelled) buffer)
             (λ f. cancelled-before Request (dedicated g) (shared g) l (s .shared) (i .agrees .fifo f) buffer
             (before (leb (dedicated g) buffer) refl (isQueue g) (o .apart) f))
-            (i .agrees .queue);
+            (i .agrees .queue)
+            (cancel-sets-bit Request l (s .sent) (s .cancelled) (i .agrees .bits) (i .agrees .balanced) buffer
+            (is-pending g l s (w .memory) (i .agrees) buffer ∙ o .pending));
         state = record { regs = refl; fifo0 = refl; fifo1 = refl; newdata = refl };
         memory = only-none (areaRange (txArea g)) (w .memory);
       };

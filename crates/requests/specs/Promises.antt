@@ -31,7 +31,8 @@ use Rattle.requests.specs.Standing.{TxAgrees, InStep, Leaves, LeavesTx, 
 
 abbrev pub StartAgrees : Type 0
 StartAgrees =
-    (g : Registers) (s : State) (mem : List ℕ) → s .pending ≡ 0 → s .shared ≡ noneHeld → TxAgrees g emptyBook s mem
+    (g : Registers) (s : State) (mem : List ℕ) → s .pending ≡ 0 → s .shared ≡ noneHeld → s .sent ≡ 0 → s .cancelled ≡ 0
+    → TxAgrees g emptyBook s mem
 
 -- a step that changes neither the Tx buffers' part of the state nor their words
 abbrev pub ElsewhereAgrees : Type 0
@@ -39,7 +40,8 @@ ElsewhereAgrees =
     (g : Registers) (l : Book) (s : State) (mem : List ℕ) → TxAgrees g l s mem
     → areaEnd (txArea g) ≤ length mem
     → (next : State) (other : List ℕ) → next .pending ≡ s .pending → next .shared ≡ s .shared
-    → SameIn (areaRange (txArea g)) mem other → TxAgrees g l next other
+    → next .sent ≡ s .sent → next .cancelled ≡ s .cancelled → SameIn (areaRange (txArea g)) mem other
+    → TxAgrees g l next other
 
 -- ---- requests
 

@@ -17,7 +17,7 @@ use Rattle.engine.specs.Fitness.{sharedRingSize}
 use Rattle.engine.specs.declared.state.State.{State}
 use Rattle.books.specs.Balance.{RequestsBalanced}
 use Rattle.books.specs.Lists.{Each}
-use Rattle.books.specs.Pending.{BuffersHold, CircleAgrees}
+use Rattle.books.specs.Pending.{BuffersHold, CircleAgrees, BitsTell}
 use Rattle.requests.specs.Requests.{Request, Sendable, Book}
 
 -- a request's element, in the area of the Tx buffers
@@ -34,6 +34,9 @@ pub record TxAgrees (g : Registers) (l : Book) (s : State) (mem : List ℕ) : Ty
   pub queue : isQueue g ≡ true → s .shared ≡ noneHeld
   -- each that was accepted is exactly once pending, sent or cancelled
   pub balanced : RequestsBalanced l
+  -- the sent bit of a buffer is 1 exactly where its latest request since the start was sent, the cancelled bit exactly
+  -- where it was cancelled
+  pub bits : BitsTell l (s .sent) (s .cancelled)
 
 -- ---- before and after a call
 
