@@ -2,7 +2,7 @@
 -- Assumes nothing.
 use Prim.Native.Nat.{ℕ, zero, suc, _+_, _-_, _≤_, _<_, min, max}
 use mathlib.Core.Path.{_≡_, refl, sym, ap, ap₂, _∙_}
-use mathlib.Core.Bool.{Bool, true, false, not, _&&_, _||_}
+use mathlib.Core.Bool.{Bool, true, false, not, _&&_}
 use mathlib.Core.List.{List}
 use mathlib.Core.Logic.{_⊎_, inl, inr, ⊎-elim}
 use borrow.Author.Tests.{eqb-true, eq-eqb, ltb-true, ltb-false, le-ltb, leb-true, leb-false, not-false}
@@ -12,13 +12,12 @@ use lib.ListN.{getD}
 use Rattle.words.specs.Fields.{onlyNamed}
 use Rattle.words.specs.Least.{leastFrom}
 use Rattle.words.specs.Rules.{allowed, first}
-use Rattle.words.proofs.Choices.{and-both, or-neither}
+use Rattle.words.proofs.Choices.{and-both}
 use Rattle.words.proofs.Lowest.{least-below, least-absent}
 use Rattle.words.proofs.Rulings.{all-allowed, allowed-all, held-off, let-pass}
 use Rattle.words.proofs.Unnamed.{unnamed, agrees, below32}
 use Rattle.registers.specs.Kinds.{sidfc, xidfc, rxfc, rxbc, rxesc, txefc, txbc, txesc, gfc, xidam}
 use Rattle.shape.specs.Refusals.{names}
-use Rattle.registers.specs.Fields.{dedicated, shared}
 use Rattle.registers.specs.Given.{allNamed}
 use Rattle.registers.specs.declared.Registers.{Registers}
 use Rattle.layout.specs.Sections.{none, sectionsOf}
@@ -27,15 +26,16 @@ use Rattle.layout.specs.Verdict.{hasPartner, pairRule, rules, verdict}
 use Rattle.layout.specs.Legal.{Named, Counted, Has, Legal}
 use Rattle.layout.specs.Promises.{AcceptedIsLegal}
 use Rattle.layout.specs.declared.sections.Section.{Section}
+use Rattle.layout.proofs.Counts.{none-over, all-within, counted-of, within-of}
 use Rattle.layout.proofs.Table.{Within, has-within, within-has, empty-or-some}
 
 -- a search of the seven sections that refuses nothing has found no fault
-none-with : (n : ℕ) (fault : ℕ → Bool) → firstWith n fault ≡ allowed → (i : ℕ) → i < 7 → fault i ≡ false
+pub none-with : (n : ℕ) (fault : ℕ → Bool) → firstWith n fault ≡ allowed → (i : ℕ) → i < 7 → fault i ≡ false
 none-with n fault e i h =
     least-below fault 0 7 i (omega arith)
     (omega (arith, ltb-false (leastFrom fault 0 7) 7 (held-off _ (names n (leastFrom fault 0 7) 7) e)))
 
-with-none : (n : ℕ) (fault : ℕ → Bool) → ((i : ℕ) → i < 7 → fault i ≡ false) → firstWith n fault ≡ allowed
+pub with-none : (n : ℕ) (fault : ℕ → Bool) → ((i : ℕ) → i < 7 → fault i ≡ false) → firstWith n fault ≡ allowed
 with-none n fault h =
     let-pass (names n (leastFrom fault 0 7) 7)
     (le-ltb (leastFrom fault 0 7) 7 (omega (arith, least-absent fault 0 7 (λ j a b. h j (omega arith)))))
@@ -58,7 +58,7 @@ words-of a b c d e f g h i j k p =
     (q1 .0, q1 .1, q2 .1, q3 .1, q4 .1, q5 .1, q6 .1, q7 .1, q8 .1, q9 .1, q10 .1)
 
 module _ (r : Registers) where
-  named : allNamed r ≡ true → Named r
+  pub named : allNamed r ≡ true → Named r
   unfolding agrees below32
   named e =
       let w =
@@ -80,7 +80,7 @@ module _ (r : Registers) where
         xidam = unnamed xidam tt tt tt _ .0 (eqb-true _ _ (w .10));
       }
 
-  name : Named r → allNamed r ≡ true
+  pub name : Named r → allNamed r ≡ true
   unfolding agrees below32
   name n =
       ap₂ _&&_ (ap₂ _&&_ (ap₂ _&&_ (ap₂ _&&_ (ap₂ _&&_ (ap₂ _&&_ (ap₂ _&&_ (ap₂ _&&_ (ap₂ _&&_ (ap₂ _&&_
@@ -97,32 +97,11 @@ module _ (r : Registers) where
       (eq-eqb _ _ (unnamed xidam tt tt tt _ .1 (n .xidam)))
 
   -- 12 and 13
-  counted : countRule r ≡ allowed → txRule r ≡ allowed → Counted r
-  counted e f =
-      let o = none-with 12 (over r) e in
-      let t = or-neither (ltb 32 (dedicated r)) (ltb 32 (shared r)) (o 6 (omega arith)) in
-      record {
-        filters11 = ltb-false _ _ (o 0 (omega arith));
-        filters29 = ltb-false _ _ (o 1 (omega arith));
-        fifo0 = ltb-false _ _ (o 2 (omega arith));
-        fifo1 = ltb-false _ _ (o 3 (omega arith));
-        buffers = ltb-false _ _ (o 4 (omega arith));
-        events = ltb-false _ _ (o 5 (omega arith));
-        dedicated = ltb-false _ _ (t .0);
-        shared = ltb-false _ _ (t .1);
-        together = ltb-false _ _ (held-off _ (plain 13) f);
-      }
+  pub counted : countRule r ≡ allowed → txRule r ≡ allowed → Counted r
+  counted e f = counted-of r (none-over r (none-with 12 (over r) e)) (ltb-false _ _ (held-off _ (plain 13) f))
 
-  within-most : Counted r → (i : ℕ) → i < 7 → over r i ≡ false
-  within-most h zero l = le-ltb _ _ (h .filters11)
-  within-most h (suc zero) l = le-ltb _ _ (h .filters29)
-  within-most h (suc (suc zero)) l = le-ltb _ _ (h .fifo0)
-  within-most h (suc (suc (suc zero))) l = le-ltb _ _ (h .fifo1)
-  within-most h (suc (suc (suc (suc zero)))) l = le-ltb _ _ (h .buffers)
-  within-most h (suc (suc (suc (suc (suc zero))))) l = le-ltb _ _ (h .events)
-  within-most h (suc (suc (suc (suc (suc (suc zero)))))) l =
-      ap₂ _||_ (le-ltb _ _ (h .dedicated)) (le-ltb _ _ (h .shared))
-  within-most h (suc (suc (suc (suc (suc (suc (suc i))))))) l = absurd (omega arith)
+  pub within-most : Counted r → (i : ℕ) → i < 7 → over r i ≡ false
+  within-most h = all-within r (within-of r h)
 
 -- 15: two sections share a word where some word is in both
 pub apart-words : (a b : Section) → shares a b ≡ false → (k : ℕ) → Within a k → Within b k → ⊥
@@ -136,7 +115,7 @@ shared-word a b e =
       record { from = omega arith; below = omega arith },
     )
 
-words-apart : (a b : Section) → ((k : ℕ) → Within a k → Within b k → ⊥) → shares a b ≡ false
+pub words-apart : (a b : Section) → ((k : ℕ) → Within a k → Within b k → ⊥) → shares a b ≡ false
 words-apart a b h = go (shares a b) refl
   where
     go : (t : Bool) → shares a b ≡ t → t ≡ false
@@ -151,7 +130,7 @@ module _ (ss : List Section) where
       least-below (λ k. shares (getD ss i none) (getD ss k none)) (i + 1) (7 - (i + 1)) j (omega arith)
       (omega (arith, ltb-false (partner ss i) 7 e))
 
-  partnerless : (i : ℕ) → i < 7 → ((j : ℕ) → i < j → j < 7 → shares (getD ss i none) (getD ss j none) ≡ false)
+  pub partnerless : (i : ℕ) → i < 7 → ((j : ℕ) → i < j → j < 7 → shares (getD ss i none) (getD ss j none) ≡ false)
       → hasPartner ss i ≡ false
   unfolding partner
   partnerless i h f =
@@ -163,7 +142,7 @@ module _ (ss : List Section) where
       ))
 
 module _ (r : Registers) (words : ℕ) where
-  inside : endRule words (sectionsOf r) ≡ allowed → (i k : ℕ) → i < 7 → Has r i k → k < words
+  pub inside : endRule words (sectionsOf r) ≡ allowed → (i k : ℕ) → i < 7 → Has r i k → k < words
   inside e i k h w =
       let v = has-within r i k w in
       omega (
@@ -172,15 +151,19 @@ module _ (r : Registers) (words : ℕ) where
         ltb-false words (end (getD (sectionsOf r) i none)) (none-with 14 (past words (sectionsOf r)) e i h),
       )
 
-  put-inside : ((i k : ℕ) → i < 7 → Has r i k → k < words) → (i : ℕ) → i < 7 → past words (sectionsOf r) i ≡ false
-  put-inside f i h =
+  -- a section whose words are all in the memory does not end past it
+  pub put-in : (i : ℕ) → i < 7 → ((k : ℕ) → Has r i k → k < words) → past words (sectionsOf r) i ≡ false
+  put-in i h f =
       le-ltb words (end (getD (sectionsOf r) i none))
       (⊎-elim (λ e. omega (arith, ap end e)) (λ l. omega (arith, last l)) (empty-or-some r i h))
     where
       last : 0 < getD (sectionsOf r) i none .words → end (getD (sectionsOf r) i none) - 1 < words
       last l =
-          f i (end (getD (sectionsOf r) i none) - 1) h
+          f (end (getD (sectionsOf r) i none) - 1)
           (within-has r i (end (getD (sectionsOf r) i none) - 1) (record { from = omega arith; below = omega arith }))
+
+  pub put-inside : ((i k : ℕ) → i < 7 → Has r i k → k < words) → (i : ℕ) → i < 7 → past words (sectionsOf r) i ≡ false
+  put-inside f i h = put-in i h (λ k. f i k h)
 
   apart : pairRule (sectionsOf r) ≡ allowed → (i j k : ℕ) → i < j → j < 7 → Has r i k → Has r j k → ⊥
   apart e i j k h l v w =
