@@ -18,24 +18,25 @@ use Rattle.words.proofs.Rulings.{all-allowed, allowed-all, held-off, let-pass}
 use Rattle.words.proofs.Unnamed.{unnamed, agrees, below32}
 use Rattle.registers.specs.Kinds.{sidfc, xidfc, rxfc, rxbc, rxesc, txefc, txbc, txesc, gfc, xidam}
 use Rattle.shape.specs.Refusals.{names}
+use Rattle.registers.specs.Fields.{dedicated, shared}
 use Rattle.registers.specs.Given.{allNamed}
 use Rattle.registers.specs.declared.Registers.{Registers}
 use Rattle.layout.specs.Sections.{none, sectionsOf}
-use Rattle.layout.specs.Verdict.{plain, over, firstWith, countRule, txRule, end, past, endRule, shares, partner}
+use Rattle.layout.specs.Verdict.{plain, over, firstWith, end, past, endRule, shares, partner}
 use Rattle.layout.specs.Verdict.{hasPartner, pairRule, rules, verdict}
-use Rattle.layout.specs.Legal.{Named, Counted, Has, Legal}
-use Rattle.layout.specs.Promises.{AcceptedIsLegal}
+use Rattle.layout.specs.Legal.{Named, WithinMost, Has, Legal}
+use Rattle.layout.specs.Promises.{AcceptedIsLegal, AllInside, AllApart}
 use Rattle.layout.specs.declared.sections.Section.{Section}
 use Rattle.layout.proofs.Counts.{none-over, all-within, counted-of, within-of}
 use Rattle.layout.proofs.Table.{Within, has-within, within-has, empty-or-some}
 
 -- a search of the seven sections that refuses nothing has found no fault
-pub none-with : (n : ℕ) (fault : ℕ → Bool) → firstWith n fault ≡ allowed → (i : ℕ) → i < 7 → fault i ≡ false
+none-with : (n : ℕ) (fault : ℕ → Bool) → firstWith n fault ≡ allowed → (i : ℕ) → i < 7 → fault i ≡ false
 none-with n fault e i h =
     least-below fault 0 7 i (omega arith)
     (omega (arith, ltb-false (leastFrom fault 0 7) 7 (held-off _ (names n (leastFrom fault 0 7) 7) e)))
 
-pub with-none : (n : ℕ) (fault : ℕ → Bool) → ((i : ℕ) → i < 7 → fault i ≡ false) → firstWith n fault ≡ allowed
+with-none : (n : ℕ) (fault : ℕ → Bool) → ((i : ℕ) → i < 7 → fault i ≡ false) → firstWith n fault ≡ allowed
 with-none n fault h =
     let-pass (names n (leastFrom fault 0 7) 7)
     (le-ltb (leastFrom fault 0 7) 7 (omega (arith, least-absent fault 0 7 (λ j a b. h j (omega arith)))))
@@ -96,13 +97,6 @@ module _ (r : Registers) where
       (eq-eqb _ _ (unnamed gfc tt tt tt _ .1 (n .gfc))))
       (eq-eqb _ _ (unnamed xidam tt tt tt _ .1 (n .xidam)))
 
-  -- 12 and 13
-  pub counted : countRule r ≡ allowed → txRule r ≡ allowed → Counted r
-  counted e f = counted-of r (none-over r (none-with 12 (over r) e)) (ltb-false _ _ (held-off _ (plain 13) f))
-
-  pub within-most : Counted r → (i : ℕ) → i < 7 → over r i ≡ false
-  within-most h = all-within r (within-of r h)
-
 -- 15: two sections share a word where some word is in both
 pub apart-words : (a b : Section) → shares a b ≡ false → (k : ℕ) → Within a k → Within b k → ⊥
 apart-words a b e k p q = omega (arith, ltb-false (max (a .start .0) (b .start .0)) (min (end a) (end b)) e)
@@ -142,7 +136,7 @@ module _ (ss : List Section) where
       ))
 
 module _ (r : Registers) (words : ℕ) where
-  pub inside : endRule words (sectionsOf r) ≡ allowed → (i k : ℕ) → i < 7 → Has r i k → k < words
+  inside : endRule words (sectionsOf r) ≡ allowed → (i k : ℕ) → i < 7 → Has r i k → k < words
   inside e i k h w =
       let v = has-within r i k w in
       omega (
@@ -162,7 +156,7 @@ module _ (r : Registers) (words : ℕ) where
           f (end (getD (sectionsOf r) i none) - 1)
           (within-has r i (end (getD (sectionsOf r) i none) - 1) (record { from = omega arith; below = omega arith }))
 
-  pub put-inside : ((i k : ℕ) → i < 7 → Has r i k → k < words) → (i : ℕ) → i < 7 → past words (sectionsOf r) i ≡ false
+  put-inside : ((i k : ℕ) → i < 7 → Has r i k → k < words) → (i : ℕ) → i < 7 → past words (sectionsOf r) i ≡ false
   put-inside f i h = put-in i h (λ k. f i k h)
 
   apart : pairRule (sectionsOf r) ≡ allowed → (i j k : ℕ) → i < j → j < 7 → Has r i k → Has r j k → ⊥
@@ -190,28 +184,57 @@ module _ (given : ℕ) (r : Registers) (words : ℕ) where
   unfolding verdict
   verdict-rules = refl
 
+  -- the first k rules let pass where what they judge is right
+  pub fine : (k : ℕ) → (0 < k → words ≡ given) → (1 < k → Named r) → (2 < k → WithinMost r)
+      → (3 < k → dedicated r + shared r ≤ 32) → (4 < k → AllInside r words) → (5 < k → AllApart r)
+      → (j : ℕ) → j < k → getD (rules given r words) j allowed ≡ allowed
+  fine k m n c t s a zero h = let-pass (plain 10) (ap not (eq-eqb words given (m h)))
+  fine k m n c t s a (suc zero) h = let-pass (plain 11) (ap not (name r (n h)))
+  fine k m n c t s a (suc (suc zero)) h = with-none 12 (over r) (all-within r (c h))
+  fine k m n c t s a (suc (suc (suc zero))) h = let-pass (plain 13) (le-ltb 32 _ (t h))
+  fine k m n c t s a (suc (suc (suc (suc zero)))) h =
+      with-none 14 (past words (sectionsOf r)) (put-inside r words (s h))
+  fine k m n c t s a (suc (suc (suc (suc (suc zero))))) h = put-apart r words (a h)
+  fine k m n c t s a (suc (suc (suc (suc (suc (suc j)))))) h = refl
+
+  -- and only there
+  module _ (k : ℕ) (b : (j : ℕ) → j < k → getD (rules given r words) j allowed ≡ allowed) where
+    pub right-memory : 0 < k → words ≡ given
+    right-memory h = eqb-true words given (not-false (eqb words given) (held-off _ (plain 10) (b 0 h)))
+
+    pub right-bits : 1 < k → Named r
+    right-bits h = named r (not-false (allNamed r) (held-off _ (plain 11) (b 1 h)))
+
+    pub right-counts : 2 < k → WithinMost r
+    right-counts h = none-over r (none-with 12 (over r) (b 2 h))
+
+    pub right-together : 3 < k → dedicated r + shared r ≤ 32
+    right-together h = ltb-false _ _ (held-off _ (plain 13) (b 3 h))
+
+    pub right-ends : 4 < k → AllInside r words
+    right-ends h = inside r words (b 4 h)
+
+    pub right-apart : 5 < k → AllApart r
+    right-apart h = apart r words (b 5 h)
+
   to-legal : verdict given r words ≡ allowed → Legal given r words
-  to-legal e =
-      let each = all-allowed (rules given r words) (sym verdict-rules ∙ e) in
-      record {
-        memory = eqb-true words given (not-false (eqb words given) (held-off _ (plain 10) (each 0)));
-        named = named r (not-false (allNamed r) (held-off _ (plain 11) (each 1)));
-        counted = counted r (each 2) (each 3);
-        inside = inside r words (each 4);
-        apart = apart r words (each 5);
-      }
+  to-legal e = record {
+    memory = right-memory 6 b (omega arith);
+    named = right-bits 6 b (omega arith);
+    counted = counted-of r (right-counts 6 b (omega arith)) (right-together 6 b (omega arith));
+    inside = right-ends 6 b (omega arith);
+    apart = right-apart 6 b (omega arith);
+  }
+    where
+      b : (j : ℕ) → j < 6 → getD (rules given r words) j allowed ≡ allowed
+      b j h = all-allowed (rules given r words) (sym verdict-rules ∙ e) j
 
   from-legal : Legal given r words → verdict given r words ≡ allowed
-  from-legal h = verdict-rules ∙ allowed-all (rules given r words) each
-    where
-      each : (k : ℕ) → k < 6 → getD (rules given r words) k allowed ≡ allowed
-      each zero l = let-pass (plain 10) (ap not (eq-eqb words given (h .memory)))
-      each (suc zero) l = let-pass (plain 11) (ap not (name r (h .named)))
-      each (suc (suc zero)) l = with-none 12 (over r) (within-most r (h .counted))
-      each (suc (suc (suc zero))) l = let-pass (plain 13) (le-ltb 32 _ (h .counted .together))
-      each (suc (suc (suc (suc zero)))) l = with-none 14 (past words (sectionsOf r)) (put-inside r words (h .inside))
-      each (suc (suc (suc (suc (suc zero))))) l = put-apart r words (h .apart)
-      each (suc (suc (suc (suc (suc (suc k)))))) l = absurd (omega arith)
+  from-legal h =
+      verdict-rules
+      ∙ allowed-all (rules given r words)
+      (fine 6 (λ l. h .memory) (λ l. h .named) (λ l. within-of r (h .counted)) (λ l. h .counted .together)
+      (λ l. h .inside) (λ l. h .apart))
 
 pub accepted-is-legal : AcceptedIsLegal
 accepted-is-legal given r words = (to-legal given r words, from-legal given r words)

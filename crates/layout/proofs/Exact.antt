@@ -4,14 +4,14 @@ use Prim.Native.Nat.{ℕ, zero, suc, _+_, _-_, _≤_, _<_, min, max}
 use mathlib.Core.Path.{_≡_, refl, sym, ap, _∙_}
 use mathlib.Core.Bool.{Bool, true, false, not}
 use mathlib.Core.Logic.{_⊎_, inl, inr}
-use borrow.Author.Tests.{eqb-true, eq-eqb, ne-eqb, ltb-true, ltb-false, lt-ltb, le-ltb, not-false}
+use borrow.Author.Tests.{eq-eqb, ne-eqb, ltb-true, lt-ltb}
 use native.Mathlib.Omega.{arith}
 use lib.Dec.{eqb, ltb}
 use lib.ListN.{getD}
 use Rattle.words.specs.Least.{leastFrom}
 use Rattle.words.specs.Rules.{allowed, refused, refuseIf}
 use Rattle.words.proofs.Lowest.{least-is}
-use Rattle.words.proofs.Rulings.{refused-first, first-refused, held-off, refused-by, let-pass, turned-down}
+use Rattle.words.proofs.Rulings.{refused-first, first-refused, refused-by, turned-down}
 use Rattle.shape.specs.Refusals.{Refusal, names}
 use Rattle.registers.specs.Fields.{dedicated, shared}
 use Rattle.registers.specs.Given.{allNamed}
@@ -19,15 +19,15 @@ use Rattle.registers.specs.declared.Registers.{Registers}
 use Rattle.layout.specs.Sections.{none, sectionsOf}
 use Rattle.layout.specs.Verdict.{plain, over, firstWith, end, past, shares, partner, hasPartner, pairRule}
 use Rattle.layout.specs.Verdict.{rules, verdict}
-use Rattle.layout.specs.Legal.{Named, WithinMost, Has}
-use Rattle.layout.specs.Promises.{FirstTooMany, AllInside, FirstPast, FirstPair, Refuses, RefusalsAreExact}
+use Rattle.layout.specs.Legal.{Named, Has}
+use Rattle.layout.specs.Promises.{FirstTooMany, FirstPast, FirstPair, Refuses, RefusalsAreExact}
 use Rattle.layout.specs.declared.sections.Section.{Section}
 use Rattle.layout.proofs.Says.{found-with}
 use Rattle.layout.proofs.Table.{Within, has-within, within-has}
-use Rattle.layout.proofs.Counts.{many-over, over-many, few-not-over, many-section, none-over, all-within}
+use Rattle.layout.proofs.Counts.{many-over, over-many, few-not-over, many-section}
 use Rattle.layout.proofs.Counts.{counted-of, within-of}
-use Rattle.layout.proofs.Accepted.{none-with, with-none, named, name, inside, put-in, put-inside, words-apart}
-use Rattle.layout.proofs.Accepted.{partnerless, verdict-rules}
+use Rattle.layout.proofs.Accepted.{named, name, put-in, words-apart, partnerless, verdict-rules, fine}
+use Rattle.layout.proofs.Accepted.{right-memory, right-bits, right-counts, right-together, right-ends}
 use Rattle.layout.proofs.Names.{rule-of, passed-before, first-fault, end-names-first, overlap-names-first}
 
 clash : true ≡ false → ⊥
@@ -101,38 +101,10 @@ module _ (r : Registers) where
       ∙ ap (λ (x : ℕ). refused (names 15 i x)) p
 
 module _ (given : ℕ) (r : Registers) (words : ℕ) where
-  -- the first k rules let pass where what they judge is right
-  fine : (k : ℕ) → k < 6 → (0 < k → words ≡ given) → (1 < k → Named r) → (2 < k → WithinMost r)
-      → (3 < k → dedicated r + shared r ≤ 32) → (4 < k → AllInside r words)
-      → (j : ℕ) → j < k → getD (rules given r words) j allowed ≡ allowed
-  fine k q m n c t s zero h = let-pass (plain 10) (ap not (eq-eqb words given (m h)))
-  fine k q m n c t s (suc zero) h = let-pass (plain 11) (ap not (name r (n h)))
-  fine k q m n c t s (suc (suc zero)) h = with-none 12 (over r) (all-within r (c h))
-  fine k q m n c t s (suc (suc (suc zero))) h = let-pass (plain 13) (le-ltb 32 _ (t h))
-  fine k q m n c t s (suc (suc (suc (suc zero)))) h =
-      with-none 14 (past words (sectionsOf r)) (put-inside r words (s h))
-  fine k q m n c t s (suc (suc (suc (suc (suc j))))) h = absurd (omega arith)
-
   -- rule k refuses, and those before it let pass
   given-by : (k : ℕ) (a : Refusal) → k < 6 → getD (rules given r words) k allowed ≡ refused a
       → ((j : ℕ) → j < k → getD (rules given r words) j allowed ≡ allowed) → verdict given r words ≡ refused a
   given-by k a h e b = verdict-rules given r words ∙ refused-first (rules given r words) k a (h, e, b)
-
-  module _ (k : ℕ) (b : (j : ℕ) → j < k → getD (rules given r words) j allowed ≡ allowed) where
-    right-memory : 0 < k → words ≡ given
-    right-memory h = eqb-true words given (not-false (eqb words given) (held-off _ (plain 10) (b 0 h)))
-
-    right-bits : 1 < k → Named r
-    right-bits h = named r (not-false (allNamed r) (held-off _ (plain 11) (b 1 h)))
-
-    right-counts : 2 < k → WithinMost r
-    right-counts h = none-over r (none-with 12 (over r) (b 2 h))
-
-    right-together : 3 < k → dedicated r + shared r ≤ 32
-    right-together h = ltb-false _ _ (held-off _ (plain 13) (b 3 h))
-
-    right-ends : 4 < k → AllInside r words
-    right-ends h = inside r words (b 4 h)
 
   -- what was refused, by the rule of its number
   module _ (k : ℕ) (a : Refusal) (n : a .number ≡ 10 + k) (e : verdict given r words ≡ refused a) where
@@ -181,8 +153,8 @@ refusals-are-exact given r words = record {
           ∙ ap not (name r n)),
     ),
     λ f. given-by given r words 1 (plain 11) (omega arith) (turned-down (plain 11) (ap not (not-named r (f .1))))
-        (fine given r words 1 (omega arith) (λ h. f .0) (λ h. absurd (omega arith)) (λ h. absurd (omega arith))
-        (λ h. absurd (omega arith)) (λ h. absurd (omega arith))),
+        (fine given r words 1 (λ h. f .0) (λ h. absurd (omega arith)) (λ h. absurd (omega arith))
+        (λ h. absurd (omega arith)) (λ h. absurd (omega arith)) (λ h. absurd (omega arith))),
   );
   count = λ i. (
     λ e.
@@ -192,8 +164,8 @@ refusals-are-exact given r words = record {
           first-many r i (by-rule given r words 2 (names 12 i 7) refl e),
         ),
     λ f. given-by given r words 2 (names 12 i 7) (omega arith) (many-first r i (f .2))
-        (fine given r words 2 (omega arith) (λ h. f .0) (λ h. f .1) (λ h. absurd (omega arith))
-        (λ h. absurd (omega arith)) (λ h. absurd (omega arith))),
+        (fine given r words 2 (λ h. f .0) (λ h. f .1) (λ h. absurd (omega arith))
+        (λ h. absurd (omega arith)) (λ h. absurd (omega arith)) (λ h. absurd (omega arith))),
   );
   together = (
     λ e.
@@ -204,8 +176,8 @@ refusals-are-exact given r words = record {
           ltb-true 32 _ (refused-by _ (plain 13) (plain 13) (by-rule given r words 3 (plain 13) refl e) .0),
         ),
     λ f. given-by given r words 3 (plain 13) (omega arith) (turned-down (plain 13) (lt-ltb 32 _ (f .3)))
-        (fine given r words 3 (omega arith) (λ h. f .0) (λ h. f .1) (λ h. f .2) (λ h. absurd (omega arith))
-        (λ h. absurd (omega arith))),
+        (fine given r words 3 (λ h. f .0) (λ h. f .1) (λ h. f .2) (λ h. absurd (omega arith))
+        (λ h. absurd (omega arith)) (λ h. absurd (omega arith))),
   );
   past = λ i. (
     λ e.
@@ -216,8 +188,8 @@ refusals-are-exact given r words = record {
           end-names-first given r words i e,
         ),
     λ f. given-by given r words 4 (names 14 i 7) (omega arith) (past-first r words i (f .3))
-        (fine given r words 4 (omega arith) (λ h. f .0) (λ h. f .1) (λ h. within-of r (f .2)) (λ h. f .2 .together)
-        (λ h. absurd (omega arith))),
+        (fine given r words 4 (λ h. f .0) (λ h. f .1) (λ h. within-of r (f .2)) (λ h. f .2 .together)
+        (λ h. absurd (omega arith)) (λ h. absurd (omega arith))),
   );
   pair = λ i j. (
     λ e.
@@ -229,8 +201,8 @@ refusals-are-exact given r words = record {
           overlap-names-first given r words i j e,
         ),
     λ f. given-by given r words 5 (names 15 i j) (omega arith) (pair-first r i j (f .4))
-        (fine given r words 5 (omega arith) (λ h. f .0) (λ h. f .1) (λ h. within-of r (f .2)) (λ h. f .2 .together)
-        (λ h. f .3)),
+        (fine given r words 5 (λ h. f .0) (λ h. f .1) (λ h. within-of r (f .2)) (λ h. f .2 .together)
+        (λ h. f .3) (λ h. absurd (omega arith))),
   );
   only =
       λ a e.

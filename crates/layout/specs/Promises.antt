@@ -56,6 +56,10 @@ pub record FirstTooMany (r : Registers) (i : ℕ) : Type 0 where
 abbrev pub AllInside : Registers → ℕ → Type 0
 AllInside r words = (i k : ℕ) → i < 7 → Has r i k → k < words
 
+-- no two sections share a word
+abbrev pub AllApart : Registers → Type 0
+AllApart r = (i j k : ℕ) → i < j → j < 7 → Has r i k → Has r j k → ⊥
+
 -- when each refusal is given, exactly, and which sections it names (7 for none): the lowest number that applies
 pub record Refuses (given : ℕ) (r : Registers) (words : ℕ) : Type 0 where
   -- 10: the memory is of another length
