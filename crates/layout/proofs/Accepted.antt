@@ -2,7 +2,7 @@
 -- Assumes nothing.
 use Prim.Native.Nat.{ℕ, zero, suc, _+_, _-_, _≤_, _<_, min, max}
 use mathlib.Core.Path.{_≡_, refl, sym, ap, ap₂, _∙_}
-use mathlib.Core.Bool.{Bool, true, false, not, _&&_, _||_}
+use mathlib.Core.Bool.{Bool, true, false, not, _&&_}
 use mathlib.Core.List.{List}
 use mathlib.Core.Logic.{_⊎_, inl, inr, ⊎-elim}
 use borrow.Author.Tests.{eqb-true, eq-eqb, ltb-true, ltb-false, le-ltb, leb-true, leb-false, not-false}
@@ -12,7 +12,7 @@ use lib.ListN.{getD}
 use Rattle.words.specs.Fields.{onlyNamed}
 use Rattle.words.specs.Least.{leastFrom}
 use Rattle.words.specs.Rules.{allowed, first}
-use Rattle.words.proofs.Choices.{and-both, or-neither}
+use Rattle.words.proofs.Choices.{and-both}
 use Rattle.words.proofs.Lowest.{least-below, least-absent}
 use Rattle.words.proofs.Rulings.{all-allowed, allowed-all, held-off, let-pass}
 use Rattle.words.proofs.Unnamed.{unnamed, agrees, below32}
@@ -22,11 +22,12 @@ use Rattle.registers.specs.Fields.{dedicated, shared}
 use Rattle.registers.specs.Given.{allNamed}
 use Rattle.registers.specs.declared.Registers.{Registers}
 use Rattle.layout.specs.Sections.{none, sectionsOf}
-use Rattle.layout.specs.Verdict.{plain, over, firstWith, countRule, txRule, end, past, endRule, shares, partner}
+use Rattle.layout.specs.Verdict.{plain, over, firstWith, end, past, endRule, shares, partner}
 use Rattle.layout.specs.Verdict.{hasPartner, pairRule, rules, verdict}
-use Rattle.layout.specs.Legal.{Named, Counted, Has, Legal}
-use Rattle.layout.specs.Promises.{AcceptedIsLegal}
+use Rattle.layout.specs.Legal.{Named, WithinMost, Has, Legal}
+use Rattle.layout.specs.Promises.{AcceptedIsLegal, AllInside, AllApart}
 use Rattle.layout.specs.declared.sections.Section.{Section}
+use Rattle.layout.proofs.Counts.{none-over, all-within, counted-of, within-of}
 use Rattle.layout.proofs.Table.{Within, has-within, within-has, empty-or-some}
 
 -- a search of the seven sections that refuses nothing has found no fault
@@ -58,7 +59,7 @@ words-of a b c d e f g h i j k p =
     (q1 .0, q1 .1, q2 .1, q3 .1, q4 .1, q5 .1, q6 .1, q7 .1, q8 .1, q9 .1, q10 .1)
 
 module _ (r : Registers) where
-  named : allNamed r ≡ true → Named r
+  pub named : allNamed r ≡ true → Named r
   unfolding agrees below32
   named e =
       let w =
@@ -80,7 +81,7 @@ module _ (r : Registers) where
         xidam = unnamed xidam tt tt tt _ .0 (eqb-true _ _ (w .10));
       }
 
-  name : Named r → allNamed r ≡ true
+  pub name : Named r → allNamed r ≡ true
   unfolding agrees below32
   name n =
       ap₂ _&&_ (ap₂ _&&_ (ap₂ _&&_ (ap₂ _&&_ (ap₂ _&&_ (ap₂ _&&_ (ap₂ _&&_ (ap₂ _&&_ (ap₂ _&&_ (ap₂ _&&_
@@ -96,34 +97,6 @@ module _ (r : Registers) where
       (eq-eqb _ _ (unnamed gfc tt tt tt _ .1 (n .gfc))))
       (eq-eqb _ _ (unnamed xidam tt tt tt _ .1 (n .xidam)))
 
-  -- 12 and 13
-  counted : countRule r ≡ allowed → txRule r ≡ allowed → Counted r
-  counted e f =
-      let o = none-with 12 (over r) e in
-      let t = or-neither (ltb 32 (dedicated r)) (ltb 32 (shared r)) (o 6 (omega arith)) in
-      record {
-        filters11 = ltb-false _ _ (o 0 (omega arith));
-        filters29 = ltb-false _ _ (o 1 (omega arith));
-        fifo0 = ltb-false _ _ (o 2 (omega arith));
-        fifo1 = ltb-false _ _ (o 3 (omega arith));
-        buffers = ltb-false _ _ (o 4 (omega arith));
-        events = ltb-false _ _ (o 5 (omega arith));
-        dedicated = ltb-false _ _ (t .0);
-        shared = ltb-false _ _ (t .1);
-        together = ltb-false _ _ (held-off _ (plain 13) f);
-      }
-
-  within-most : Counted r → (i : ℕ) → i < 7 → over r i ≡ false
-  within-most h zero l = le-ltb _ _ (h .filters11)
-  within-most h (suc zero) l = le-ltb _ _ (h .filters29)
-  within-most h (suc (suc zero)) l = le-ltb _ _ (h .fifo0)
-  within-most h (suc (suc (suc zero))) l = le-ltb _ _ (h .fifo1)
-  within-most h (suc (suc (suc (suc zero)))) l = le-ltb _ _ (h .buffers)
-  within-most h (suc (suc (suc (suc (suc zero))))) l = le-ltb _ _ (h .events)
-  within-most h (suc (suc (suc (suc (suc (suc zero)))))) l =
-      ap₂ _||_ (le-ltb _ _ (h .dedicated)) (le-ltb _ _ (h .shared))
-  within-most h (suc (suc (suc (suc (suc (suc (suc i))))))) l = absurd (omega arith)
-
 -- 15: two sections share a word where some word is in both
 pub apart-words : (a b : Section) → shares a b ≡ false → (k : ℕ) → Within a k → Within b k → ⊥
 apart-words a b e k p q = omega (arith, ltb-false (max (a .start .0) (b .start .0)) (min (end a) (end b)) e)
@@ -136,7 +109,7 @@ shared-word a b e =
       record { from = omega arith; below = omega arith },
     )
 
-words-apart : (a b : Section) → ((k : ℕ) → Within a k → Within b k → ⊥) → shares a b ≡ false
+pub words-apart : (a b : Section) → ((k : ℕ) → Within a k → Within b k → ⊥) → shares a b ≡ false
 words-apart a b h = go (shares a b) refl
   where
     go : (t : Bool) → shares a b ≡ t → t ≡ false
@@ -151,7 +124,7 @@ module _ (ss : List Section) where
       least-below (λ k. shares (getD ss i none) (getD ss k none)) (i + 1) (7 - (i + 1)) j (omega arith)
       (omega (arith, ltb-false (partner ss i) 7 e))
 
-  partnerless : (i : ℕ) → i < 7 → ((j : ℕ) → i < j → j < 7 → shares (getD ss i none) (getD ss j none) ≡ false)
+  pub partnerless : (i : ℕ) → i < 7 → ((j : ℕ) → i < j → j < 7 → shares (getD ss i none) (getD ss j none) ≡ false)
       → hasPartner ss i ≡ false
   unfolding partner
   partnerless i h f =
@@ -172,15 +145,19 @@ module _ (r : Registers) (words : ℕ) where
         ltb-false words (end (getD (sectionsOf r) i none)) (none-with 14 (past words (sectionsOf r)) e i h),
       )
 
-  put-inside : ((i k : ℕ) → i < 7 → Has r i k → k < words) → (i : ℕ) → i < 7 → past words (sectionsOf r) i ≡ false
-  put-inside f i h =
+  -- a section whose words are all in the memory does not end past it
+  pub put-in : (i : ℕ) → i < 7 → ((k : ℕ) → Has r i k → k < words) → past words (sectionsOf r) i ≡ false
+  put-in i h f =
       le-ltb words (end (getD (sectionsOf r) i none))
       (⊎-elim (λ e. omega (arith, ap end e)) (λ l. omega (arith, last l)) (empty-or-some r i h))
     where
       last : 0 < getD (sectionsOf r) i none .words → end (getD (sectionsOf r) i none) - 1 < words
       last l =
-          f i (end (getD (sectionsOf r) i none) - 1) h
+          f (end (getD (sectionsOf r) i none) - 1)
           (within-has r i (end (getD (sectionsOf r) i none) - 1) (record { from = omega arith; below = omega arith }))
+
+  put-inside : ((i k : ℕ) → i < 7 → Has r i k → k < words) → (i : ℕ) → i < 7 → past words (sectionsOf r) i ≡ false
+  put-inside f i h = put-in i h (λ k. f i k h)
 
   apart : pairRule (sectionsOf r) ≡ allowed → (i j k : ℕ) → i < j → j < 7 → Has r i k → Has r j k → ⊥
   apart e i j k h l v w =
@@ -207,28 +184,57 @@ module _ (given : ℕ) (r : Registers) (words : ℕ) where
   unfolding verdict
   verdict-rules = refl
 
+  -- the first k rules let pass where what they judge is right
+  pub fine : (k : ℕ) → (0 < k → words ≡ given) → (1 < k → Named r) → (2 < k → WithinMost r)
+      → (3 < k → dedicated r + shared r ≤ 32) → (4 < k → AllInside r words) → (5 < k → AllApart r)
+      → (j : ℕ) → j < k → getD (rules given r words) j allowed ≡ allowed
+  fine k m n c t s a zero h = let-pass (plain 10) (ap not (eq-eqb words given (m h)))
+  fine k m n c t s a (suc zero) h = let-pass (plain 11) (ap not (name r (n h)))
+  fine k m n c t s a (suc (suc zero)) h = with-none 12 (over r) (all-within r (c h))
+  fine k m n c t s a (suc (suc (suc zero))) h = let-pass (plain 13) (le-ltb 32 _ (t h))
+  fine k m n c t s a (suc (suc (suc (suc zero)))) h =
+      with-none 14 (past words (sectionsOf r)) (put-inside r words (s h))
+  fine k m n c t s a (suc (suc (suc (suc (suc zero))))) h = put-apart r words (a h)
+  fine k m n c t s a (suc (suc (suc (suc (suc (suc j)))))) h = refl
+
+  -- and only there
+  module _ (k : ℕ) (b : (j : ℕ) → j < k → getD (rules given r words) j allowed ≡ allowed) where
+    pub right-memory : 0 < k → words ≡ given
+    right-memory h = eqb-true words given (not-false (eqb words given) (held-off _ (plain 10) (b 0 h)))
+
+    pub right-bits : 1 < k → Named r
+    right-bits h = named r (not-false (allNamed r) (held-off _ (plain 11) (b 1 h)))
+
+    pub right-counts : 2 < k → WithinMost r
+    right-counts h = none-over r (none-with 12 (over r) (b 2 h))
+
+    pub right-together : 3 < k → dedicated r + shared r ≤ 32
+    right-together h = ltb-false _ _ (held-off _ (plain 13) (b 3 h))
+
+    pub right-ends : 4 < k → AllInside r words
+    right-ends h = inside r words (b 4 h)
+
+    pub right-apart : 5 < k → AllApart r
+    right-apart h = apart r words (b 5 h)
+
   to-legal : verdict given r words ≡ allowed → Legal given r words
-  to-legal e =
-      let each = all-allowed (rules given r words) (sym verdict-rules ∙ e) in
-      record {
-        memory = eqb-true words given (not-false (eqb words given) (held-off _ (plain 10) (each 0)));
-        named = named r (not-false (allNamed r) (held-off _ (plain 11) (each 1)));
-        counted = counted r (each 2) (each 3);
-        inside = inside r words (each 4);
-        apart = apart r words (each 5);
-      }
+  to-legal e = record {
+    memory = right-memory 6 b (omega arith);
+    named = right-bits 6 b (omega arith);
+    counted = counted-of r (right-counts 6 b (omega arith)) (right-together 6 b (omega arith));
+    inside = right-ends 6 b (omega arith);
+    apart = right-apart 6 b (omega arith);
+  }
+    where
+      b : (j : ℕ) → j < 6 → getD (rules given r words) j allowed ≡ allowed
+      b j h = all-allowed (rules given r words) (sym verdict-rules ∙ e) j
 
   from-legal : Legal given r words → verdict given r words ≡ allowed
-  from-legal h = verdict-rules ∙ allowed-all (rules given r words) each
-    where
-      each : (k : ℕ) → k < 6 → getD (rules given r words) k allowed ≡ allowed
-      each zero l = let-pass (plain 10) (ap not (eq-eqb words given (h .memory)))
-      each (suc zero) l = let-pass (plain 11) (ap not (name r (h .named)))
-      each (suc (suc zero)) l = with-none 12 (over r) (within-most r (h .counted))
-      each (suc (suc (suc zero))) l = let-pass (plain 13) (le-ltb 32 _ (h .counted .together))
-      each (suc (suc (suc (suc zero)))) l = with-none 14 (past words (sectionsOf r)) (put-inside r words (h .inside))
-      each (suc (suc (suc (suc (suc zero))))) l = put-apart r words (h .apart)
-      each (suc (suc (suc (suc (suc (suc k)))))) l = absurd (omega arith)
+  from-legal h =
+      verdict-rules
+      ∙ allowed-all (rules given r words)
+      (fine 6 (λ l. h .memory) (λ l. h .named) (λ l. within-of r (h .counted)) (λ l. h .counted .together)
+      (λ l. h .inside) (λ l. h .apart))
 
 pub accepted-is-legal : AcceptedIsLegal
 accepted-is-legal given r words = (to-legal given r words, from-legal given r words)

@@ -1,7 +1,9 @@
 pub mod Searches
 pub mod Says
 pub mod Table
+pub mod Counts
 pub mod Accepted
 pub mod Names
+pub mod Exact
 pub mod Judged
 pub mod OneAnswer

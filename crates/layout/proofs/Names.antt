@@ -42,12 +42,19 @@ numbered given r words (suc (suc (suc (suc (suc zero))))) a e =
 numbered given r words (suc (suc (suc (suc (suc (suc k)))))) a e = let z : _≡_ {A = ℕ} 0 1 = cc in absurd (omega arith)
 
 -- so a refusal comes from the rule of its number
-rule-of : (given : ℕ) (r : Registers) (words k : ℕ) (a : Refusal) → a .number ≡ 10 + k
+pub rule-of : (given : ℕ) (r : Registers) (words k : ℕ) (a : Refusal) → a .number ≡ 10 + k
     → verdict given r words ≡ refused a → getD (rules given r words) k allowed ≡ refused a
 rule-of given r words k a n e =
     let d = first-refused (rules given r words) a (sym (verdict-rules given r words) ∙ e) in
     let same : d .0 ≡ k = omega (arith, numbered given r words (d .0) a (d .1 .1)) in
     ap (λ (i : ℕ). getD (rules given r words) i allowed) (sym same) ∙ d .1 .1
+
+-- and each rule before it lets pass
+pub passed-before : (given : ℕ) (r : Registers) (words k : ℕ) (a : Refusal) → a .number ≡ 10 + k
+    → verdict given r words ≡ refused a → (j : ℕ) → j < k → getD (rules given r words) j allowed ≡ allowed
+passed-before given r words k a n e j h =
+    let d = first-refused (rules given r words) a (sym (verdict-rules given r words) ∙ e) in
+    d .1 .2 j (omega (arith, numbered given r words (d .0) a (d .1 .1)))
 
 abbrev section : Refusal → ℕ
 section a = a .section
@@ -58,7 +65,7 @@ pub record FirstFault (fault : ℕ → Bool) (i : ℕ) : Type 0 where
   pub here : fault i ≡ true
   pub before : (j : ℕ) → j < i → fault j ≡ false
 
-first-fault : (n : ℕ) (fault : ℕ → Bool) (i : ℕ) → firstWith n fault ≡ refused (names n i 7) → FirstFault fault i
+pub first-fault : (n : ℕ) (fault : ℕ → Bool) (i : ℕ) → firstWith n fault ≡ refused (names n i 7) → FirstFault fault i
 first-fault n fault i e =
     let b = refused-by _ _ (names n i 7) e in
     let l = ltb-true (leastFrom fault 0 7) 7 (b .0) in

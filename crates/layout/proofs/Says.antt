@@ -34,7 +34,7 @@ section-some start count each h = simp (ne-eqb _ _ h)
 
 -- a search for the first of the seven sections with a fault: it found one, or none
 module _ (n : ℕ) (fault : ℕ → Bool) (i : ℕ) (e : i ≡ leastFrom fault 0 7) where
-  found-with : i < 7 → firstWith n fault ≡ refused (names n i 7)
+  pub found-with : i < 7 → firstWith n fault ≡ refused (names n i 7)
   found-with h =
       turned-down (names n (leastFrom fault 0 7) 7) (lt-ltb (leastFrom fault 0 7) 7 (omega arith))
       ∙ ap (λ (k : ℕ). refused (names n k 7)) (sym e)

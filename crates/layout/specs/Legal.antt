@@ -34,6 +34,41 @@ pub record Counted (r : Registers) : Type 0 where
   pub shared : Fields.shared r ≤ 32
   pub together : Fields.txCount r ≤ 32
 
+-- the counts, each with the section that it counts for and its most: the Tx buffers have two
+pub record CountRow : Type 0 where
+  pub section : ℕ
+  pub count : ℕ
+  pub most : ℕ
+
+abbrev pub countRow : ℕ → ℕ → ℕ → CountRow
+countRow s n m = record { section = s; count = n; most = m }
+
+abbrev pub countTable : Registers → List CountRow
+countTable r =
+    countRow 0 (Fields.filters11 r) 128
+    ∷ countRow 1 (Fields.filters29 r) 64
+    ∷ countRow 2 (Fields.fifoSize r 0) 64
+    ∷ countRow 3 (Fields.fifoSize r 1) 64
+    ∷ countRow 4 (Fields.buffers r) 64
+    ∷ countRow 5 (Fields.eventSize r) 32
+    ∷ countRow 6 (Fields.dedicated r) 32
+    ∷ countRow 6 (Fields.shared r) 32
+    ∷ []
+
+abbrev pub countOf : Registers → ℕ → CountRow
+countOf r n = getD (countTable r) n (countRow 0 0 0)
+
+-- some count of section i is over its most
+pub record TooMany (r : Registers) (i : ℕ) : Type 0 where
+  pub row : ℕ
+  pub inside : row < 8
+  pub section : countOf r row .section ≡ i
+  pub above : countOf r row .most < countOf r row .count
+
+-- none is
+abbrev pub WithinMost : Registers → Type 0
+WithinMost r = (n : ℕ) → n < 8 → countOf r n .count ≤ countOf r n .most
+
 -- the words of an element by its size code: two of header, and a quarter of its data bytes
 abbrev pub wordsBySize : ℕ → ℕ
 wordsBySize code = 2 + getD (8 ∷ 12 ∷ 16 ∷ 20 ∷ 24 ∷ 32 ∷ 48 ∷ 64 ∷ []) code 0 / 4

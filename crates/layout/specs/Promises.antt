@@ -1,13 +1,14 @@
 -- What is promised of the verdict (demand 2, layouts): statements only.
-use Prim.Native.Nat.{ℕ, _≤_, _<_}
+use Prim.Native.Nat.{ℕ, _+_, _≤_, _<_}
 use mathlib.Core.Path.{_≡_}
 use mathlib.Core.Bool.{true, false}
-use mathlib.Core.Logic.{_↔_}
+use mathlib.Core.Logic.{_↔_, _⊎_}
 use Rattle.words.specs.Rules.{allowed, refused}
-use Rattle.shape.specs.Refusals.{names}
+use Rattle.shape.specs.Refusals.{Refusal, names}
+use Rattle.registers.specs.Fields.{dedicated, shared}
 use Rattle.registers.specs.declared.Registers.{Registers}
 use Rattle.layout.specs.Verdict.{meaning, over, verdict}
-use Rattle.layout.specs.Legal.{Has, Legal}
+use Rattle.layout.specs.Legal.{Named, TooMany, WithinMost, Counted, Has, Legal}
 use Rattle.layout.specs.declared.check.Verdict.{Verdict}
 
 -- a start is accepted exactly where its layout is legal
@@ -45,6 +46,51 @@ pub record FirstPair (r : Registers) (i j : ℕ) : Type 0 where
 abbrev pub OverlapNamesFirst : Type 0
 OverlapNamesFirst =
     (given : ℕ) (r : Registers) (words i j : ℕ) → verdict given r words ≡ refused (names 15 i j) → FirstPair r i j
+
+-- a section has a count over its most, and none before it has
+pub record FirstTooMany (r : Registers) (i : ℕ) : Type 0 where
+  pub here : TooMany r i
+  pub before : (j : ℕ) → j < i → TooMany r j → ⊥
+
+-- every word of every section is in the memory
+abbrev pub AllInside : Registers → ℕ → Type 0
+AllInside r words = (i k : ℕ) → i < 7 → Has r i k → k < words
+
+-- no two sections share a word
+abbrev pub AllApart : Registers → Type 0
+AllApart r = (i j k : ℕ) → i < j → j < 7 → Has r i k → Has r j k → ⊥
+
+-- when each refusal is given, exactly, and which sections it names (7 for none): the lowest number that applies
+pub record Refuses (given : ℕ) (r : Registers) (words : ℕ) : Type 0 where
+  -- 10: the memory is of another length
+  pub memory : (verdict given r words ≡ refused (names 10 7 7)) ↔ (words ≡ given → ⊥)
+  -- 11: it is not, and some bit that is not named is set
+  pub bits : (verdict given r words ≡ refused (names 11 7 7)) ↔ ((words ≡ given) × (Named r → ⊥))
+  -- 12: neither, and i is the first section with a count over its most
+  pub count : (i : ℕ)
+      → (verdict given r words ≡ refused (names 12 i 7)) ↔ ((words ≡ given) × Named r × FirstTooMany r i)
+  -- 13: none of these, and the Tx buffers together are over 32
+  pub together : (verdict given r words ≡ refused (names 13 7 7))
+      ↔ ((words ≡ given) × Named r × WithinMost r × (32 < dedicated r + shared r))
+  -- 14: none of these, and i is the first section with a word past the memory
+  pub past : (i : ℕ)
+      → (verdict given r words ≡ refused (names 14 i 7))
+      ↔ ((words ≡ given) × Named r × Counted r × FirstPast r words i)
+  -- 15: none of these, and i and j are the first pair that shares a word
+  pub pair : (i j : ℕ)
+      → (verdict given r words ≡ refused (names 15 i j))
+      ↔ ((words ≡ given) × Named r × Counted r × AllInside r words × FirstPair r i j)
+  -- and no other refusal
+  pub only : (a : Refusal) → verdict given r words ≡ refused a
+      → (a ≡ names 10 7 7)
+      ⊎ (a ≡ names 11 7 7)
+      ⊎ ((i : ℕ) × (a ≡ names 12 i 7))
+      ⊎ (a ≡ names 13 7 7)
+      ⊎ ((i : ℕ) × (a ≡ names 14 i 7))
+      ⊎ ((i : ℕ) × (j : ℕ) × (a ≡ names 15 i j))
+
+abbrev pub RefusalsAreExact : Type 0
+RefusalsAreExact = (given : ℕ) (r : Registers) (words : ℕ) → Refuses given r words
 
 -- no two answers of the code mean the same, so no second answer meets the contract
 abbrev pub OneAnswer : Type 0

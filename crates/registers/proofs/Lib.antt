@@ -1,1 +1,2 @@
 pub mod Fifos
+pub mod Bits

@@ -1,7 +1,7 @@
--- An accepted start gives a fit state.
+-- An accepted start gives a fit state, empty in every part.
 -- Assumes nothing.
 use Prim.Native.Nat.{ℕ, _+_, _%_, _^_}
-use mathlib.Core.Path.{_≡_, refl, sym, ap, _∙_}
+use mathlib.Core.Path.{_≡_, refl, sym, ap, subst, _∙_}
 use mathlib.Core.Bool.{false}
 use native.Mathlib.Nat.{zero-div}
 use native.Mathlib.Omega.{arith}
@@ -11,7 +11,7 @@ use lib.Pow.{pow-pos}
 use Rattle.words.specs.Bits.{bit}
 use Rattle.words.specs.Rules.{allowed, first}
 use Rattle.shape.specs.Calls.{done}
-use Rattle.shape.proofs.Calls.{call-cases}
+use Rattle.shape.proofs.Calls.{call-cases, call-answers}
 use Rattle.ring.specs.Rings.{noneHeld}
 use Rattle.ring.proofs.Fitness.{fit-none}
 use Rattle.ring.proofs.Holding.{empty-not-held}
@@ -25,7 +25,7 @@ use Rattle.engine.specs.Fitness.{sharedRingSize, unfit, Sound}
 use Rattle.engine.specs.States.{emptyState, noFlags}
 use Rattle.engine.proofs.Cases.{shared-most}
 use Rattle.engine.proofs.Sounds.{fit-of}
-use Rattle.starting.specs.Promises.{StartIsFit}
+use Rattle.starting.specs.Promises.{StartIsFit, EmptyRing, Fresh, StartIsFresh}
 use Rattle.starting.specs.Starting.{unreported, starts}
 
 no-bit : (k : ℕ) → bit 0 k ≡ 0
@@ -61,4 +61,25 @@ start-is-fit w g =
     call-cases w unreported (rules memoryWords g (length (w .memory))) (starts w g)
     (λ (o : Outcome (Unit {0})). o .says ≡ done → isUnfit (o .world) ≡ false)
     (λ n e. let z : _≡_ {A = ℕ} 0 1 = cc in absurd (omega arith))
-    (λ e said. empty-is-fit g (length (w .memory)) (sym (start-ruled g (length (w .memory))) ∙ e))
+    (λ e said. fit-of (starts w g .world .state) (starts w g .world .recorded) (length (w .memory))
+    (empty-sound g (length (w .memory)) (sym (start-ruled g (length (w .memory))) ∙ e)) (λ k f. no-bit k))
+
+pub start-is-fresh : StartIsFresh
+start-is-fresh w g e =
+    let rows = rules memoryWords g (length (w .memory)) in
+    subst (λ (o : Outcome (Unit {0})). Fresh g (w .memory) (o .world))
+    (sym (call-answers w unreported rows (starts w g) tt e .1))
+    (record {
+      registers = refl;
+      fifo0 = record { oldest = refl; fill = refl };
+      fifo1 = record { oldest = refl; fill = refl };
+      events = record { oldest = refl; fill = refl };
+      shared = record { oldest = refl; fill = refl };
+      newdata = refl;
+      pending = refl;
+      sent = refl;
+      cancelled = refl;
+      flags = refl;
+      priority = refl;
+      unwritten = refl;
+    })
