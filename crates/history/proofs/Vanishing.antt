@@ -109,7 +109,7 @@ nothing-vanishes w cs typed some =
       stands = standing r .agreed;
       meant = as-meant r;
       answers = every-answer r;
-      filters = filters-suffice r;
+      filters = filters-suffice (r .regs) (r .before .memory);
       sent = sent-in-form r;
       fit = never-20 r;
     }
