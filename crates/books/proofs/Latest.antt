@@ -9,7 +9,7 @@ use native.Mathlib.Omega.{arith}
 use lib.Dec.{eqb, ltb, leb}
 use lib.ListN.{length}
 use lib.Pow.{pow-mono}
-use borrow.Author.Tests.{ne-eqb, eq-eqb, eqb-true, eqb-false, ltb-true, ltb-false, lt-ltb, le-ltb, le-leb, lt-leb}
+use borrow.Author.Tests.{ne-eqb, eq-eqb, eqb-true, eqb-false, ltb-true, ltb-false, lt-ltb, le-leb, lt-leb}
 use Rattle.words.specs.Choice.{pick}
 use Rattle.words.specs.Bits.{bit, withBit, withoutBit}
 use Rattle.words.proofs.Bits.{bit-of-zero, set-same, set-other, cleared-same, cleared-other, cleared-clear}

@@ -20,7 +20,7 @@ use Rattle.places.specs.declared.Slot.{Slot}
 use Rattle.places.specs.declared.Slot.the-variants.{At, Lost}
 use Rattle.areas.specs.Areas.{fifoArea}
 use Rattle.shape.specs.Calls.{Says, refuses, answers, Outcome, effect}
-use Rattle.shape.specs.Histories.{Told, told, trace, book, noted}
+use Rattle.shape.specs.Histories.{Told, trace, book, noted}
 use Rattle.shape.specs.Refusals.{Refusals}
 use Rattle.shape.proofs.Calls.{call-cases}
 use Rattle.engine.specs.Calls.{World, _when_}

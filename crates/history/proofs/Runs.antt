@@ -1,4 +1,4 @@
--- Demand 3 of every run: from the start on, the book agrees after each call.
+-- The parts of demand 3, of every run: from the start on, the book agrees after each call.
 -- Assumes nothing.
 use Prim.Native.Nat.{ℕ, zero, suc, _≤_}
 use mathlib.Core.Path.{_≡_, refl, sym, ap, _∙_}
@@ -117,13 +117,6 @@ module _ (r : Run) where
       run-foretold step (note (r .regs)) InRun (Standing (r .regs) mem) kept
       (expect (r .regs) mem) (λ b w c h. step-told (r .regs) mem b w h c) emptyBook (began r) (r .calls) each begins
 
-  pub filters-suffice : FiltersSuffice r
-  filters-suffice other same b c =
-      let g = r .regs in
-      ap (λ (n : ℕ). expectBy g n (destination g mem) b c) (sym (same true .size))
-      ∙ ap (λ (goes : Frame → ℕ → Goes). expectBy g (length other) goes b c)
-      (λ i f n. destination-reads-its-list g mem other f n (same (f .xtd)) i)
-
   -- the form in which a request is sent
   pub sent-in-form : SentInForm r
   sent-in-form buffer passive time out e size =
@@ -132,3 +125,9 @@ module _ (r : Run) where
       step-told (r .regs) mem b (now r) standing (askChoice passive out)
       ∙ reported-is-chosen (r .regs) (b .requests) buffer passive out
       (ap (λ (t : Told (Unit {0})). t .says) (sym reported) ∙ e) size
+
+pub filters-suffice : (g : Registers) (began : List ℕ) → FiltersSuffice g began
+filters-suffice g began other same b c =
+    ap (λ (n : ℕ). expectBy g n (destination g began) b c) (sym (same true .size))
+    ∙ ap (λ (goes : Frame → ℕ → Goes). expectBy g (length other) goes b c)
+    (λ i f n. destination-reads-its-list g began other f n (same (f .xtd)) i)

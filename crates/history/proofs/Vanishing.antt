@@ -15,7 +15,7 @@ use Rattle.books.specs.Lists.{tally, Each}
 use Rattle.handler.specs.Calls.{Call, start, receive, readFifo, acknowledgeFifo, readBuffer, releaseBuffer}
 use Rattle.handler.specs.Calls.{requestDedicated, requestShared, cancel, askChoice, reportSent, readEvent}
 use Rattle.handler.specs.Calls.{acknowledgeEvent, clearFlags, reportStatus, step}
-use Rattle.history.specs.Demand3.{InTypes, isAccepted, isStarted, Run, now, LastStart, NothingVanishes}
+use Rattle.history.specs.Demand3.{InTypes, isAccepted, isStarted, now, LastStart, NothingVanishes}
 use Rattle.history.proofs.Runs.{standing, every-answer, filters-suffice, sent-in-form}
 use Rattle.history.proofs.Meaning.{as-meant}
 use Rattle.history.proofs.NeverUnfit.{never-20}
@@ -109,7 +109,7 @@ nothing-vanishes w cs typed some =
       stands = standing r .agreed;
       meant = as-meant r;
       answers = every-answer r;
-      filters = filters-suffice r;
+      filters = filters-suffice (r .regs) (r .before .memory);
       sent = sent-in-form r;
       fit = never-20 r;
     }

@@ -94,10 +94,10 @@ abbrev pub Answers : Run → Type 0
 Answers r = history r ≡ foretold (note (r .regs)) (expect (r .regs) (r .before .memory)) emptyBook (r .calls)
 
 -- and of the memory at the start, its length and the filter words alone are needed for it
-abbrev pub FiltersSuffice : Run → Type 0
-FiltersSuffice r =
-    (other : List ℕ) → ((xtd : Bool) → SameIn (listRange (listOf (r .regs) xtd)) (r .before .memory) other)
-    → (b : Book) (c : Call) → expect (r .regs) (r .before .memory) b c ≡ expect (r .regs) other b c
+abbrev pub FiltersSuffice : Registers → List ℕ → Type 0
+FiltersSuffice g began =
+    (other : List ℕ) → ((xtd : Bool) → SameIn (listRange (listOf g xtd)) began other)
+    → (b : Book) (c : Call) → expect g began b c ≡ expect g other b c
 
 -- the next call, whichever it is, does not answer 20, whatever sections it would name with it
 abbrev pub Never20 : Run → Type 0
@@ -123,7 +123,7 @@ pub record Demand3 (w : World) (calls : List Call) : Type 0 where
   pub stands : Stands (since .run)
   pub meant : Meant (since .run)
   pub answers : Answers (since .run)
-  pub filters : FiltersSuffice (since .run)
+  pub filters : FiltersSuffice (since .run .regs) (since .run .before .memory)
   pub sent : SentInForm (since .run)
   pub fit : Never20 (since .run)
 
