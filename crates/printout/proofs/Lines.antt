@@ -34,7 +34,7 @@ module _ (s : List ℕ) where
   unfolding readable
   wrong-length n = sym (ap (λ (t : Bool). t && eqb (firstOut s) 108) (ne-eqb (length s) 108 n))
 
-  read-by : length s ≡ 108 → eqb (firstOut s) 108 ≡ readable s
+  pub read-by : length s ≡ 108 → eqb (firstOut s) 108 ≡ readable s
   unfolding readable
   read-by l = sym (ap (λ (t : Bool). t && eqb (firstOut s) 108) (eq-eqb (length s) 108 l))
 
@@ -85,7 +85,7 @@ module _ (s : List ℕ) (at : ℕ) where
 
 -- k digits make a number below 16 ^ k, so eight of them fit 32 bits
 module _ (s : List ℕ) (y : readable s ≡ true) (i : ℕ) (h : i < 12) where
-  below : (k : ℕ) → k ≤ 8 → numberFrom s (9 * i) k < 16 ^ k
+  pub below : (k : ℕ) → k ≤ 8 → numberFrom s (9 * i) k < 16 ^ k
   unfolding numberFrom
   below zero l = omega arith
   below (suc k) l = omega (arith, below k (omega arith), digit-small s y i k h l, pow-suc 16 k)
