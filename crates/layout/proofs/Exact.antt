@@ -20,7 +20,7 @@ use Rattle.layout.specs.Sections.{none, sectionsOf}
 use Rattle.layout.specs.Verdict.{plain, over, firstWith, end, past, shares, partner, hasPartner, pairRule}
 use Rattle.layout.specs.Verdict.{rules, verdict}
 use Rattle.layout.specs.Legal.{Named, Has}
-use Rattle.layout.specs.Promises.{FirstTooMany, FirstPast, FirstPair, Refuses, RefusalsAreExact}
+use Rattle.layout.specs.Promises.{FirstTooMany, FirstPast, FirstPair, Refuses, VerdictsAreExact}
 use Rattle.layout.specs.declared.sections.Section.{Section}
 use Rattle.layout.proofs.Says.{found-with}
 use Rattle.layout.proofs.Table.{Within, has-within, within-has}
@@ -136,8 +136,8 @@ module _ (given : ℕ) (r : Registers) (words : ℕ) where
       inr (inr (inr (inr (inr (i, j, sym (refused-by (ltb i 7) (names 15 i j) a e .1))))))
   one-of a (suc (suc (suc (suc (suc (suc k)))))) e = let z : _≡_ {A = ℕ} 0 1 = cc in absurd (omega arith)
 
-pub refusals-are-exact : RefusalsAreExact
-refusals-are-exact given r words = record {
+pub verdicts-are-exact : VerdictsAreExact
+verdicts-are-exact given r words = record {
   memory = (
     λ e m. clash
         (sym (refused-by _ (plain 10) (plain 10) (by-rule given r words 0 (plain 10) refl e) .0)

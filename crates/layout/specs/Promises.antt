@@ -89,8 +89,8 @@ pub record Refuses (given : ℕ) (r : Registers) (words : ℕ) : Type 0 where
       ⊎ ((i : ℕ) × (a ≡ names 14 i 7))
       ⊎ ((i : ℕ) × (j : ℕ) × (a ≡ names 15 i j))
 
-abbrev pub RefusalsAreExact : Type 0
-RefusalsAreExact = (given : ℕ) (r : Registers) (words : ℕ) → Refuses given r words
+abbrev pub VerdictsAreExact : Type 0
+VerdictsAreExact = (given : ℕ) (r : Registers) (words : ℕ) → Refuses given r words
 
 -- no two answers of the code mean the same, so no second answer meets the contract
 abbrev pub OneAnswer : Type 0
