@@ -43,7 +43,7 @@ use Rattle.overview.specs.declared.Overview.{Overview}
 use Rattle.overview.specs.declared.StatusAnswer.{StatusAnswer}
 use Rattle.overview.specs.declared.StatusAnswer.the-variants.{Told}
 use Rattle.c_answers.specs.Answers.{resultOf, toldIn, filterNumber, startWords}
-use Rattle.c_answers.specs.Needs.{NamesFit, FateFits, ReadFits}
+use Rattle.c_answers.specs.Needs.{NamesFit, FateFits}
 
 -- an accepted call: its result is 0, and its answer's words are told
 module _ {A : Type 0} (s : Says A) (x : A) (e : s ≡ answers x) where
@@ -110,9 +110,6 @@ pub ruleset received = (
 module _ (a : ReadAnswer) (r : RxRead) (e : a ≡ Read r) where
   pub read-said : readSays a ≡ answers r
   read-said = ap readSays e
-
-  pub read-index : ReadFits (readSays a) → r .header .index < 128
-  read-index h = subst ReadFits read-said h
 
 pub requested-said : (a : Requested) (buffer : ℕ) → a ≡ Buffer buffer → requestSays a ≡ answers buffer
 requested-said a buffer e = ap requestSays e

@@ -7,7 +7,6 @@ use native.Mathlib.Nat.{zero-add}
 use native.Mathlib.Omega.{arith}
 use lib.ListN.{length, set, getD, drop, length-append, drop-of-length-le}
 use lib.Seq.{drop-cons}
-use Rattle.words.specs.Choice.{pick}
 use Rattle.words.specs.Runs.{splice}
 use Rattle.words.proofs.Runs.{splice-none, splice-snoc, splice-cons, splice-length}
 use Rattle.shape.specs.Calls.{done}
@@ -18,6 +17,7 @@ use Rattle.layout.specs.declared.sections.Section.{Section}
 use Rattle.starting.specs.Starting.{flat}
 use Rattle.choosing.specs.declared.asking.Chosen.{Chosen}
 use Rattle.c_words.specs.Frames.{packFrame}
+use Rattle.c_words.specs.Words.{yesNo}
 use Rattle.c_answers.specs.Answers.{startWords, readWords, chosenHead, chosenWords, eventWords}
 
 -- words put after others that were put in front
@@ -44,17 +44,18 @@ put-more l m k xs ys at e f g h =
 -- ---- frames, and words beside them
 
 module _ (l m k ws : List ℕ) (room : length l ≡ 16) where
-  -- a frame, and three words more
+  -- a frame, and three or four words more
   module _ (e : m ≡ splice l 0 ws) where
     pub read-told : (r : RxRead) (n : ℕ) → ws ≡ packFrame (r .header .frame)
-        → n ≡ pick (r .header .anmf) 0 (r .header .index + 1) → k ≡ splice m 7 (r .header .time ∷ n ∷ r .count ∷ [])
+        → n ≡ yesNo (r .header .anmf) → k ≡ splice m 7 (r .header .time ∷ r .header .index ∷ n ∷ r .count ∷ [])
         → k ≡ splice l 0 (readWords r)
     unfolding readWords packFrame
     read-told r n w x f =
-        put-more l m k (packFrame (r .header .frame)) (r .header .time ∷ pick (r .header .anmf) 0 (r .header .index + 1)
-        ∷ r .count ∷ []) 7
-        (e ∙ ap (splice l 0) w) (f ∙ ap (λ (y : ℕ). splice m 7 (r .header .time ∷ y ∷ r .count
-        ∷ [])) x) refl (omega arith)
+        put-more l m k (packFrame (r .header .frame))
+        (r .header .time ∷ r .header .index ∷ yesNo (r .header .anmf) ∷ r .count ∷ []) 7
+        (e ∙ ap (splice l 0) w)
+        (f ∙ ap (λ (y : ℕ). splice m 7 (r .header .time ∷ r .header .index ∷ y ∷ r .count ∷ [])) x)
+        refl (omega arith)
 
     pub event-told : (h : EventHeader) → ws ≡ packFrame (h .frame) → k ≡ splice m 7 (h .marker ∷ h .kind ∷ h .time ∷ [])
         → k ≡ splice l 0 (eventWords h)

@@ -1,7 +1,6 @@
 -- What a call says, in words: the number that it returns, and the words of its answer.
 use Prim.Native.Nat.{ℕ, _+_}
 use mathlib.Core.List.{List, [], _∷_, _++_}
-use Rattle.words.specs.Choice.{pick}
 use Rattle.words.specs.Runs.{splice}
 use Rattle.shape.specs.Calls.{Says, refuses, answers}
 use Rattle.frame.specs.declared.Matched.{Matched}
@@ -49,11 +48,11 @@ fateWords (storedBuffer buffer i) = 2 ∷ buffer ∷ 0 ∷ (i + 1) ∷ []
 fateWords (lostTo fifo m) = 3 ∷ fifo ∷ 0 ∷ filterNumber m ∷ []
 fateWords (dropped why m) = 4 ∷ why ∷ 0 ∷ filterNumber m ∷ []
 
--- calls 3 and 5: the frame; timestamp; the filter element, none if ANMF; how many bytes were written
+-- calls 3 and 5: the frame; timestamp; filter index and ANMF as they stand in the element; how many bytes were written
 unfoldable pub readWords : RxRead → List ℕ
 readWords r =
     packFrame (r .header .frame)
-    ++ (r .header .time ∷ pick (r .header .anmf) 0 (r .header .index + 1) ∷ r .count ∷ [])
+    ++ (r .header .time ∷ r .header .index ∷ yesNo (r .header .anmf) ∷ r .count ∷ [])
 
 -- calls 7 and 8: the buffer
 abbrev pub bufferWords : ℕ → List ℕ

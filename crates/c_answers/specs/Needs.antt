@@ -5,7 +5,6 @@ use mathlib.Core.List.{List}
 use lib.ListN.{length}
 use Rattle.shape.specs.Calls.{Says, refuses, answers}
 use Rattle.element.specs.Fitting.{indexOf}
-use Rattle.element.specs.declared.RxRead.{RxRead}
 use Rattle.receiving.specs.Receive.{Fate, stored, storedBuffer, lostTo, dropped}
 
 -- sections are named by their numbers, 7 for none
@@ -20,10 +19,6 @@ FateFits (answers (stored fifo place m)) = indexOf m < 128
 FateFits (answers (storedBuffer buffer i)) = i < 128
 FateFits (answers (lostTo fifo m)) = indexOf m < 128
 FateFits (answers (dropped why m)) = indexOf m < 128
-
-abbrev pub ReadFits : Says RxRead → Type 0
-ReadFits (refuses n) = Unit {0}
-ReadFits (answers r) = r .header .index < 128
 
 -- an answer's words can be told in those lent
 pub record CanTell (lent : List ℕ) (Fits : Type 0) : Type 0 where

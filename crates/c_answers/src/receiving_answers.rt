@@ -5,16 +5,15 @@ use c_words::frames::pack_frame;
 use element::RxRead;
 use receiving::receive::Received;
 use taking::reading::ReadAnswer;
+use words::bit_of;
 ghost use mathlib.Core.Path.{_≡_};
 ghost use mathlib.Core.List.{[], _∷_};
-ghost use Prim.Native.Nat.{_<_};
 ghost use lib.ListN.{length};
-ghost use Rattle.words.specs.Choice.{pick};
 ghost use Rattle.words.specs.Runs.{splice};
 ghost use Rattle.receiving.specs.Receive.{meaning as receiveSays};
 ghost use Rattle.taking.specs.Reading.{meaning as readSays};
 ghost use Rattle.c_answers.specs.Answers.{resultOf, toldIn, fateWords, readWords};
-ghost use Rattle.c_answers.specs.Needs.{FateFits, ReadFits, CanTell};
+ghost use Rattle.c_answers.specs.Needs.{FateFits, CanTell};
 
 // What became of a frame.
 const IN_FIFO: u32 = 1;
@@ -54,28 +53,21 @@ pub fn tell_received(answer: &mut [u32], a: Received) -> u32
     }
 }
 
-// A number, or 0 where something is so.
-fn unless(so: bool, number: u32) -> u32
-    ensures { λ n. ⌜ n ≡ pick so 0 number ⌝ }
-{
-    if so { 0 } else { number }
-}
-
-// The frame, timestamp, filter element and number of bytes.
+// The frame, timestamp, filter index, ANMF and number of bytes.
 fn tell_rx(answer: &mut [u32], r: RxRead) -> u32
-    requires { ⌜ CanTell (now answer) (r .header .index < 128) ⌝ }
+    requires { ⌜ length (now answer) ≡ 16 ⌝ }
     ensures { λ n. ⌜ (n ≡ 0) × (now (answer .exit) ≡ splice (now (answer .entry)) 0 (readWords r)) ⌝ }
 {
     let h = r.header;
     let packed = pack_frame(h.frame);
     put(answer, 0, &packed);
-    put(answer, 7, &[h.time, unless(h.anmf, h.index + 1), r.count]);
+    put(answer, 7, &[h.time, h.index, bit_of(h.anmf), r.count]);
     0
 }
 
 // Of a read in a FIFO or of an Rx buffer.
 pub fn tell_read(answer: &mut [u32], a: ReadAnswer) -> u32
-    requires { ⌜ CanTell (now answer) (ReadFits (readSays a)) ⌝ }
+    requires { ⌜ length (now answer) ≡ 16 ⌝ }
     ensures { λ n. ⌜ (n ≡ resultOf (readSays a))
         × (now (answer .exit) ≡ toldIn readWords (now (answer .entry)) (readSays a)) ⌝ }
 {

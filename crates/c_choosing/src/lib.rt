@@ -3,7 +3,7 @@ use c_answers::ANSWER_WORDS;
 use c_answers::numbers::reply_number;
 use c_answers::sending_answers::tell_choice;
 use c_entering::entering::enter;
-use c_words::states::put_both;
+use c_words::states::leave_both;
 use c_words::states::take_record;
 use c_words::states::take_state;
 use choosing::asking;
@@ -84,6 +84,7 @@ pub fn report_sent(
     }
     let after = report_of(state, recorded, mem, buffer, passive == 1, time);
     let reply = after.reply;
-    put_both(state, recorded, after.state, after.recorded);
-    reply_number(reply)
+    let number = reply_number(reply);
+    leave_both(number == 0, state, recorded, after.state, after.recorded);
+    number
 }

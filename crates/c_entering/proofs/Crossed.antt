@@ -2,10 +2,15 @@
 -- Assumes nothing.
 use Prim.Native.Nat.{ℕ}
 use mathlib.Core.Path.{_≡_, refl, sym, ap, ap₂, _∙_}
-use mathlib.Core.Bool.{Bool}
+use mathlib.Core.Bool.{Bool, true, false, _&&_}
 use mathlib.Core.List.{List}
+use borrow.Author.Tests.{eq-eqb}
+use lib.Dec.{eqb}
 use lib.ListN.{length}
+use Rattle.words.specs.Choice.{pick}
+use Rattle.words.specs.Rules.{Ruling, allowed, refused, isAllowed}
 use Rattle.words.specs.Runs.{splice}
+use Rattle.words.proofs.Choices.{pick-first, pick-second}
 use Rattle.words.proofs.Runs.{splice-none}
 use Rattle.shape.specs.Calls.{Says, refuses, answers, outcome, call}
 use Rattle.shape.specs.Refusals.{Refusal, Refusals}
@@ -13,13 +18,13 @@ use Rattle.shape.proofs.Calls.{calls-are-shaped}
 use Rattle.engine.specs.Calls.{World, world, Outcome, Effect}
 use Rattle.engine.specs.declared.state.State.{State}
 use Rattle.engine.specs.declared.state.Record.{Record}
-use Rattle.starting.specs.Starting.{unreported, start}
-use Rattle.c_words.specs.States.{unpackRegisters, unpackState, packState, ComesBack, unpackRecord, packRecord}
+use Rattle.starting.specs.Starting.{startSays, start}
+use Rattle.c_words.specs.States.{plainRegisters, unpackRegisters, unpackState, packState, ComesBack}
+use Rattle.c_words.specs.States.{unpackRecord, packRecord}
 use Rattle.c_words.proofs.Inverse.{record-forth}
 use Rattle.c_answers.specs.Answers.{resultOf, toldIn, noWords, startWords}
-use Rattle.c_entering.specs.Entering.{Lent, lent, Returned, returned, entryNumber, crossing, worldOf}
-use Rattle.c_entering.specs.Entering.{saidIn, inWords}
-use Rattle.c_entering.specs.EngineCalls.{startIn, startInWords}
+use Rattle.c_entering.specs.Entering.{Lent, lent, returned, entryNumber, entering, sized, crossing, worldOf, inWords}
+use Rattle.c_entering.specs.EngineCalls.{startInWords}
 use Rattle.c_entering.proofs.Entries.{alike, crossed, open-recorded}
 
 -- a refusal leaves the world and the output
@@ -31,74 +36,58 @@ pub untold : (l : List ℕ) (says : Says (Unit {0})) → l ≡ toldIn noWords l 
 untold l (refuses n) = refl
 untold l (answers u) = splice-none l 0
 
+-- what stands in words, left or not
+left-or-not : (b : Bool) (x y : List ℕ) → x ≡ y → pick b x y ≡ y
+left-or-not true x y e = e
+left-or-not false x y e = refl
+
 -- a state and a record that a call only reads
-pub same-state : (ws : List ℕ) (s : State) → ComesBack ws → s ≡ unpackState ws → ws ≡ packState s
-same-state ws s back x = sym (ap packState x ∙ back)
+pub same-state : (b : Bool) (ws : List ℕ) (s : State) → ComesBack ws → s ≡ unpackState ws
+    → ws ≡ pick b (packState s) ws
+same-state b ws s back x = sym (left-or-not b (packState s) ws (ap packState x ∙ back))
 
-pub same-recorded : (ws : List ℕ) (r : Record) → length ws ≡ 2 → r ≡ unpackRecord ws → ws ≡ packRecord r
-same-recorded ws r e y = sym (ap packRecord y ∙ record-forth ws e)
-
--- every part packed, whatever the call says
-abbrev packed : {A : Type 0} → (A → List ℕ) → List ℕ → Outcome A → Returned
-packed told answer o =
-    returned (resultOf (o .says))
-    (lent (packState (o .world .state)) (packRecord (o .world .recorded)) (o .world .memory)
-    (toldIn told answer (o .says)) (o .output))
-
-abbrev packedStart : List ℕ → List ℕ → Outcome (Unit {0}) → Returned
-packedStart answer out o =
-    returned (resultOf (o .says))
-    (lent (packState (o .world .state)) (packRecord (o .world .recorded)) (o .world .memory)
-    (splice answer 0 (startWords (o .says) (o .output))) out)
+pub same-recorded : (b : Bool) (ws : List ℕ) (r : Record) → length ws ≡ 2 → r ≡ unpackRecord ws
+    → ws ≡ pick b (packRecord r) ws
+same-recorded b ws r e y = sym (left-or-not b (packRecord r) ws (ap packRecord y ∙ record-forth ws e))
 
 module _ (state recorded mem answer out : List ℕ) where
   abbrev L : Lent
   L = lent state recorded mem answer out
 
-  -- what is packed of a refusal is what was lent
-  module _ (back : ComesBack state) (again : packRecord (unpackRecord recorded) ≡ recorded) where
-    in-words : {A : Type 0} (told : A → List ℕ) (o : Outcome A) → Stays (worldOf L) out o
-        → packed told answer o ≡ inWords L told o
-    unfolding inWords
-    in-words {A} told o stays = go (o .says) (o .world) (o .output) stays
-      where
-        go : (v : Says A) (w : World) (after : List ℕ) → Stays (worldOf L) out (outcome v w after)
-            → packed told answer (outcome v w after) ≡ saidIn L told w after v
-        go (answers a) w after h = refl
-        go (refuses n) w after h =
-            let same = h n refl in
-            alike refl (ap (λ (p : Outcome A). packState (p .world .state)) same ∙ back)
-            (ap (λ (p : Outcome A). packRecord (p .world .recorded)) same ∙ again)
-            (ap (λ (p : Outcome A). p .world .memory) same) refl (ap (λ (p : Outcome A). p .output) same)
-
-    start-in-words : (given : List ℕ) (o : Outcome (Unit {0})) → Stays (worldOf L) given o
-        → packedStart answer out o ≡ startInWords L o
-    unfolding startInWords
-    start-in-words given o stays = go (o .says) (o .world) (o .output) stays
-      where
-        go : (v : Says (Unit {0})) (w : World) (sections : List ℕ) → Stays (worldOf L) given (outcome v w sections)
-            → packedStart answer out (outcome v w sections) ≡ startIn L w sections v
-        go (answers a) w sections h = refl
-        go (refuses n) w sections h =
-            let same = h n refl in
-            alike refl (ap (λ (p : Outcome (Unit {0})). packState (p .world .state)) same ∙ back)
-            (ap (λ (p : Outcome (Unit {0})). packRecord (p .world .recorded)) same ∙ again)
-            (ap (λ (p : Outcome (Unit {0})). p .world .memory) same) refl refl
-
   -- ---- a call that began, and left these words
 
-  module _ (lengths words : Bool) (n : ℕ) (d : n ≡ entryNumber state recorded lengths words) (f : n ≡ 0)
-      (k : ℕ) (st re m : List ℕ) (t : State) (q : Record) (e : st ≡ packState t) (g : re ≡ packRecord q) where
+  module _ (lengths words : Bool) (n : ℕ)
+      (d : n ≡ entryNumber (sized state recorded && lengths) (plainRegisters state && words)) (f : n ≡ 0) (k : ℕ)
+      (st re m : List ℕ) (t : State) (q : Record) (e : st ≡ pick (eqb k 0) (packState t) state)
+      (g : re ≡ pick (eqb k 0) (packRecord q) recorded) where
     again : packRecord (unpackRecord recorded) ≡ recorded
-    again = record-forth recorded (open-recorded state recorded lengths words n d f)
+    again = record-forth recorded (open-recorded state recorded lengths (plainRegisters state && words) n d f)
 
+    -- an answer is told with what it leaves; a refusal leaves what was lent
     told : ComesBack state → {A : Type 0} (tells : A → List ℕ) (o : Outcome A)
         → Stays (worldOf L) out o → (says : Says A) (me after : List ℕ) → outcome says (world t q me) after ≡ o
         → k ≡ resultOf says → m ≡ toldIn tells answer says
         → returned k (lent st re me m after) ≡ crossing L lengths words (inWords L tells o)
-    told back tells o stays says me after h p z =
-        alike p e g refl z refl ∙ ap (packed tells answer) h ∙ in-words back again tells o stays
-        ∙ crossed L lengths words (inWords L tells o) n d f
+    unfolding inWords
+    told back {A} tells o stays says me after h p z =
+        go says h p z
+        ∙ crossed L (sized state recorded && lengths) (plainRegisters state && words) (inWords L tells o) n d f
+      where
+        go : (v : Says A) → outcome v (world t q me) after ≡ o → k ≡ resultOf v → m ≡ toldIn tells answer v
+            → returned k (lent st re me m after) ≡ inWords L tells o
+        go (answers a) h p z =
+            alike p (e ∙ pick-first (packState t) state (eq-eqb k 0 p)) (g ∙ pick-first (packRecord q) recorded (eq-eqb k 0 p))
+            refl z refl
+            ∙ ap (inWords L tells) h
+        go (refuses x) h p z =
+            let same : outcome (refuses x) (world t q me) after ≡ outcome (refuses x) (worldOf L) out =
+            h ∙ stays x (sym (ap (λ (y : Outcome A). y .says) h)) in
+            alike p
+            (e ∙ left-or-not (eqb k 0) (packState t) state (ap (λ (y : Outcome A). packState (y .world .state)) same ∙ back))
+            (g ∙ left-or-not (eqb k 0) (packRecord q) recorded
+            (ap (λ (y : Outcome A). packRecord (y .world .recorded)) same ∙ again))
+            (ap (λ (y : Outcome A). y .world .memory) same) z (ap (λ (y : Outcome A). y .output) same)
+            ∙ ap (inWords L tells) h
 
     module _ (back : ComesBack state) where
       -- of the world that stands in the words
@@ -110,17 +99,6 @@ module _ (state recorded mem answer out : List ℕ) where
       told-in-words tells rows does =
           told back tells (call (worldOf L) out rows does) (calls-are-shaped _ _ (worldOf L) out rows does .stays)
 
-      pub start-told : (registers : List ℕ) (says : Says (Unit {0})) (sections : List ℕ)
-          → outcome says (world t q mem) sections ≡ start (worldOf L) (unpackRegisters registers)
-          → k ≡ resultOf says → m ≡ splice answer 0 (startWords says sections)
-          → returned k (lent st re mem m out)
-          ≡ crossing L lengths words (startInWords L (start (worldOf L) (unpackRegisters registers)))
-      start-told registers says sections h p z =
-          alike p e g refl z refl ∙ ap (packedStart answer out) h
-          ∙ start-in-words back again unreported (start (worldOf L) (unpackRegisters registers))
-          (calls-are-shaped _ _ (worldOf L) unreported _ _ .stays)
-          ∙ crossed L lengths words (startInWords L (start (worldOf L) (unpackRegisters registers))) n d f
-
     -- of a state and a record that were taken from the words
     pub told-of : (s : State) (r : Record) → s ≡ unpackState state → ComesBack state → r ≡ unpackRecord recorded
         → {A : Type 0} (tells : A → List ℕ) (F : World → Outcome A) → Stays (worldOf L) out (F (worldOf L))
@@ -130,3 +108,31 @@ module _ (state recorded mem answer out : List ℕ) where
     told-of s r x back y tells F stays says me after h =
         told back tells (F (worldOf L)) stays says me after
         (h ∙ ap₂ (λ (u : State) (v : Record). F (world u v mem)) x y)
+
+  -- ---- a start that began: its verdict decides what it leaves
+
+  pub start-told : (registers : List ℕ) (lengths words : Bool) (n : ℕ)
+      → n ≡ entryNumber (sized state recorded && lengths) words → n ≡ 0
+      → (k : ℕ) (st re m : List ℕ) (t : State) (q : Record) (b : Bool) (v : Ruling Refusal) (sections : List ℕ)
+      → b ≡ isAllowed v → st ≡ pick b (packState t) state → re ≡ pick b (packRecord q) recorded
+      → outcome (startSays v) (world t q mem) sections ≡ start (worldOf L) (unpackRegisters registers)
+      → k ≡ resultOf (startSays v) → m ≡ splice answer 0 (startWords (startSays v) sections)
+      → returned k (lent st re mem m out)
+      ≡ entering L (sized state recorded && lengths) words
+      (startInWords L (start (worldOf L) (unpackRegisters registers)))
+  unfolding startInWords
+  start-told registers lengths words n d f k st re m t q b v sections a e g h p z =
+      go v a h p z
+      ∙ crossed L (sized state recorded && lengths) words
+      (startInWords L (start (worldOf L) (unpackRegisters registers))) n d f
+    where
+      go : (v : Ruling Refusal) → b ≡ isAllowed v
+          → outcome (startSays v) (world t q mem) sections ≡ start (worldOf L) (unpackRegisters registers)
+          → k ≡ resultOf (startSays v) → m ≡ splice answer 0 (startWords (startSays v) sections)
+          → returned k (lent st re mem m out) ≡ startInWords L (start (worldOf L) (unpackRegisters registers))
+      go allowed a h p z =
+          alike p (e ∙ pick-first (packState t) state a) (g ∙ pick-first (packRecord q) recorded a) refl z refl
+          ∙ ap (startInWords L) h
+      go (refused x) a h p z =
+          alike p (e ∙ pick-second (packState t) state a) (g ∙ pick-second (packRecord q) recorded a) refl z refl
+          ∙ ap (startInWords L) h

@@ -5,7 +5,9 @@ use mathlib.Core.Path.{_≡_, refl, sym, ap, ap₂, _∙_}
 use mathlib.Core.Bool.{true, _&&_}
 use mathlib.Core.List.{List, []}
 use borrow.Author.Tests.{eq-eqb, ne-eqb}
+use lib.Dec.{eqb}
 use lib.ListN.{length}
+use Rattle.words.specs.Choice.{pick}
 use Rattle.words.specs.Runs.{splice}
 use Rattle.words.proofs.Choices.{pick-first, pick-second}
 use Rattle.shape.specs.Calls.{Says, outcome, settles}
@@ -23,7 +25,7 @@ use Rattle.overview.specs.declared.StatusAnswer.{StatusAnswer}
 use Rattle.c_words.specs.States.{plainRegisters, unpackRegisters, unpackState, packState, ComesBack, unpackRecord}
 use Rattle.c_words.specs.States.{packRecord}
 use Rattle.c_answers.specs.Answers.{resultOf, toldIn, noWords, overviewWords, startWords}
-use Rattle.c_entering.specs.Entering.{lent, returned, has, entryNumber}
+use Rattle.c_entering.specs.Entering.{lent, returned, has, entryNumber, sized}
 use Rattle.c_entering.specs.EngineCalls.{neverStartedCall, startCall, clearCall, statusCall}
 use Rattle.c_entering.proofs.Entries.{alike, open-recorded}
 use Rattle.c_entering.proofs.Crossed.{untold, same-state, same-recorded, told-of}
@@ -57,24 +59,25 @@ start-taken state recorded registers mem s r g o h x y z =
 module _ (state recorded mem answer : List ℕ) (n : ℕ) (f : n ≡ 0) (s : State) (r : Record) (x : s ≡ unpackState state)
     (back : ComesBack state) (y : r ≡ unpackRecord recorded) where
   pub flags-cleared : (mask : ℕ) (a : Reply) (q : Record) (k : ℕ) (re : List ℕ)
-      → n ≡ entryNumber state recorded true true
+      → n ≡ entryNumber (sized state recorded && true) (plainRegisters state && true)
       → settles (replied a) (world s q mem) ≡ clearFlags (world s r mem) mask → k ≡ resultOf (replied a)
-      → re ≡ packRecord q
+      → re ≡ pick (eqb k 0) (packRecord q) recorded
       → returned k (lent state re mem answer []) ≡ clearCall (lent state recorded mem answer []) mask
   unfolding clearCall
   flags-cleared mask a q k re d h p v =
-      told-of state recorded mem answer [] true true n d f k state re answer s q (same-state state s back x) v
+      told-of state recorded mem answer [] true true n d f k state re answer s q (same-state (eqb k 0) state s back x) v
       s r x back y
       noWords (λ (w : World). clearFlags w mask) (calls-are-shaped _ _ _ _ _ _ .stays) (replied a) mem [] h p
       (untold answer (replied a))
 
-  pub status-told : (a : StatusAnswer) (k : ℕ) (m : List ℕ) → n ≡ entryNumber state recorded (has answer 16) true
+  pub status-told : (a : StatusAnswer) (k : ℕ) (m : List ℕ)
+      → n ≡ entryNumber (sized state recorded && has answer 16) (plainRegisters state && true)
       → settles (statusSays a) (world s r mem) ≡ reportStatus (world s r mem) → k ≡ resultOf (statusSays a)
       → m ≡ toldIn overviewWords answer (statusSays a)
       → returned k (lent state recorded mem m []) ≡ statusCall (lent state recorded mem answer [])
   unfolding statusCall
   status-told a k m d h p z =
-      let two = open-recorded state recorded (has answer 16) true n d f in
+      let two = open-recorded state recorded (has answer 16) (plainRegisters state && true) n d f in
       told-of state recorded mem answer [] (has answer 16) true n d f k state recorded m s r
-      (same-state state s back x) (same-recorded recorded r two y) s r x back y
+      (same-state (eqb k 0) state s back x) (same-recorded (eqb k 0) recorded r two y) s r x back y
       overviewWords reportStatus (calls-are-shaped _ _ _ _ _ _ .stays) (statusSays a) mem [] h p z

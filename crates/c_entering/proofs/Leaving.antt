@@ -10,8 +10,8 @@ use Rattle.shape.specs.Calls.{Says, refuses, answers}
 use Rattle.engine.specs.Calls.{World}
 use Rattle.starting.specs.Starting.{start}
 use Rattle.c_words.specs.States.{plainRegisters, unpackRegisters}
-use Rattle.c_entering.specs.Entering.{Lent, Returned, returned, has, entryRuling, crossing, worldOf, saidIn}
-use Rattle.c_entering.specs.Entering.{inWords}
+use Rattle.c_entering.specs.Entering.{Lent, Returned, returned, has, entryRuling, entering, sized, worldOf}
+use Rattle.c_entering.specs.Entering.{saidIn, inWords}
 use Rattle.c_entering.specs.EngineCalls.{neverStartedCall, startIn, startInWords, startCall}
 use Rattle.c_entering.specs.Promises.{Leaves, LeavesButAnswer}
 use Rattle.c_entering.specs.Promises.{RefusalsLeaveAll, NeverStartedLeavesAll, StartLeavesAll}
@@ -37,9 +37,10 @@ module _ (l : Lent) where
   written false r z f = refl
 
 pub refusals-leave-all : RefusalsLeaveAll
-unfolding crossing inWords
+unfolding entering inWords
 refusals-leave-all A l lengths words told o =
-    shut l (Leaves l) (λ n f. refl) (entryRuling (l .state) (l .recorded) lengths words) (inWords l told o)
+    shut l (Leaves l) (λ n f. refl)
+    (entryRuling (sized (l .state) (l .recorded) && lengths) (plainRegisters (l .state) && words)) (inWords l told o)
     (said l told (o .world) (o .output) (o .says))
 
 pub never-started-leaves-all : NeverStartedLeavesAll
@@ -47,10 +48,9 @@ unfolding neverStartedCall
 never-started-leaves-all l = written l (has (l .state) 27) _ refl
 
 pub start-leaves-all : StartLeavesAll
-unfolding startCall crossing startInWords
+unfolding startCall entering startInWords
 start-leaves-all l registers =
     let o = start (worldOf l) (unpackRegisters registers) in
-    let lengths = has registers 14 && has (l .answer) 16 in
-    shut l (LeavesButAnswer l) (λ n f. refl)
-    (entryRuling (l .state) (l .recorded) lengths (plainRegisters registers)) (startInWords l o)
+    let lengths = sized (l .state) (l .recorded) && (has registers 14 && has (l .answer) 16) in
+    shut l (LeavesButAnswer l) (λ n f. refl) (entryRuling lengths (plainRegisters registers)) (startInWords l o)
     (started l (o .world) (o .output) (o .says))

@@ -11,7 +11,8 @@ use Rattle.starting.specs.Starting.{start}
 use Rattle.overview.specs.Overview.{clearFlags, reportStatus}
 use Rattle.c_words.specs.States.{plainRegisters, unpackRegisters, packState}
 use Rattle.c_answers.specs.Answers.{noWords, startWords, overviewWords}
-use Rattle.c_entering.specs.Entering.{Lent, lent, Returned, returned, has, crossing, worldOf, leaving, inWords}
+use Rattle.c_entering.specs.Entering.{Lent, lent, Returned, returned, has, entering, sized, crossing}
+use Rattle.c_entering.specs.Entering.{worldOf, leaving, inWords}
 
 -- a state for which every call but a start answers 20
 unfoldable pub neverStartedCall : Lent → Returned
@@ -31,10 +32,10 @@ startIn l w sections (answers u) = returned 0 (leaving l w (startWords done sect
 unfoldable pub startInWords : Lent → Outcome (Unit {0}) → Returned
 startInWords l o = startIn l (o .world) (o .output) (o .says)
 
--- call 1
+-- call 1: the old state may be any words
 unfoldable pub startCall : Lent → List ℕ → Returned
 startCall l registers =
-    crossing l (has registers 14 && has (l .answer) 16) (plainRegisters registers)
+    entering l (sized (l .state) (l .recorded) && (has registers 14 && has (l .answer) 16)) (plainRegisters registers)
     (startInWords l (start (worldOf l) (unpackRegisters registers)))
 
 -- call 14

@@ -43,22 +43,27 @@ returned n l = record { number = n; lent = l }
 abbrev pub has : List ℕ → ℕ → Bool
 has ws n = eqb (length ws) n
 
--- 100: a lent buffer that has a length of its own has another: the state, the record, or one of the call's;
--- 101: a word that says yes or no is neither: of the state, or of the call's
-unfoldable pub entryRuling : List ℕ → List ℕ → Bool → Bool → Ruling ℕ
-entryRuling state recorded lengths words =
-    first
-    (refuseIf (not (has state 27 && has recorded 2 && lengths)) 100
-    ∷ refuseIf (not (plainRegisters state && words)) 101
-    ∷ [])
+-- 100: a lent buffer that has a length of its own has another; 101: a word that says yes or no is neither
+unfoldable pub entryRuling : Bool → Bool → Ruling ℕ
+entryRuling lengths words = first (refuseIf (not lengths) 100 ∷ refuseIf (not words) 101 ∷ [])
 
 -- the number that a call from C returns at once, 0 for none
-abbrev pub entryNumber : List ℕ → List ℕ → Bool → Bool → ℕ
-entryNumber state recorded lengths words = settle (entryRuling state recorded lengths words) 0 (λ n. n)
+abbrev pub entryNumber : Bool → Bool → ℕ
+entryNumber lengths words = settle (entryRuling lengths words) 0 (λ n. n)
 
 -- both leave all as it was; where neither is so, the call decides
-unfoldable pub crossing : Lent → Bool → Bool → Returned → Returned
-crossing l lengths words r = settle (entryRuling (l .state) (l .recorded) lengths words) r (λ n. returned n l)
+unfoldable pub entering : Lent → Bool → Bool → Returned → Returned
+entering l lengths words r = settle (entryRuling lengths words) r (λ n. returned n l)
+
+-- the state and the record have their lengths
+abbrev pub sized : List ℕ → List ℕ → Bool
+sized state recorded = has state 27 && has recorded 2
+
+-- of a call on a state: the box and the call's own buffers have their lengths; the state's and the call's own words
+-- say yes or no
+abbrev pub crossing : Lent → Bool → Bool → Returned → Returned
+crossing l lengths words r =
+    entering l (sized (l .state) (l .recorded) && lengths) (plainRegisters (l .state) && words) r
 
 -- ---- a call's outcome in words
 

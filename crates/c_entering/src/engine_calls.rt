@@ -1,15 +1,16 @@
 // Calls 1, 14 and 15 on words, and a state that was never started.
 use crate::entering::WRONG_LENGTH;
 use crate::entering::enter;
-use crate::entering::enter_registers;
+use crate::entering::enter_start;
 use c_answers::ANSWER_WORDS;
 use c_answers::engine_answers::tell_started;
 use c_answers::engine_answers::tell_status;
 use c_answers::numbers::reply_number;
 use c_words::states::STATE_WORDS;
-use c_words::states::put_both;
-use c_words::states::put_record;
+use c_words::states::leave_both;
+use c_words::states::leave_record;
 use c_words::states::put_state;
+use c_words::states::take_any_state;
 use c_words::states::take_record;
 use c_words::states::take_registers;
 use c_words::states::take_state;
@@ -23,8 +24,7 @@ ghost use Rattle.shape.specs.Calls.{outcome};
 ghost use Rattle.layout.specs.Verdict.{meaning};
 ghost use Rattle.engine.specs.Calls.{world};
 ghost use Rattle.starting.specs.Starting.{startSays, flat, start as startRule};
-ghost use Rattle.c_words.specs.Needs.{BoxWords};
-ghost use Rattle.c_words.specs.States.{unpackRegisters, unpackState, ComesBack, unpackRecord};
+ghost use Rattle.c_words.specs.States.{unpackRegisters, unpackState, unpackRecord};
 ghost use Rattle.c_entering.specs.Entering.{returned, lent};
 ghost use Rattle.c_entering.specs.EngineCalls.{neverStartedCall, startCall, clearCall, statusCall};
 
@@ -42,14 +42,13 @@ pub fn never_started(state: &mut [u32]) -> u32
 
 // The start of the state, record and registers that stand in these words.
 fn start_of(state: &[u32], recorded: &[u32], mem: &[u32], registers: &[u32]) -> Started
-    requires { ⌜ BoxWords (now state) (now recorded) × (14 ≤ length (now registers)) ⌝ }
-    ensures { λ a. ⌜ (outcome (startSays (meaning (a .verdict))) (world (a .state) (a .recorded) (now (mem .entry)))
+    requires { ⌜ (length (now state) ≡ 27) × (length (now recorded) ≡ 2) × (14 ≤ length (now registers)) ⌝ }
+    ensures { λ a. ⌜ outcome (startSays (meaning (a .verdict))) (world (a .state) (a .recorded) (now (mem .entry)))
         (flat (a .sections))
         ≡ startRule (world (unpackState (now (state .entry))) (unpackRecord (now (recorded .entry))) (now (mem .entry)))
-        (unpackRegisters (now (registers .entry))))
-        × ComesBack (now (state .entry)) ⌝ }
+        (unpackRegisters (now (registers .entry))) ⌝ }
 {
-    let s = take_state(state);
+    let s = take_any_state(state);
     let r = take_record(recorded);
     starting::start(s, r, take_registers(registers), mem)
 }
@@ -67,14 +66,20 @@ pub fn start(
         ≡ startCall (lent (now (state .entry)) (now (recorded .entry)) (now (mem .entry)) (now (answer .entry)) [])
         (now (registers .entry)) ⌝ }
 {
-    let n = enter_registers(state, recorded, registers, answer.len());
+    let n = enter_start(state.len(), recorded.len(), registers, answer.len());
     if n != 0 {
         return n;
     }
     let after = start_of(state, recorded, mem, registers);
     let verdict = after.verdict;
     let sections = after.sections;
-    put_both(state, recorded, after.state, after.recorded);
+    leave_both(
+        verdict.accepted(),
+        state,
+        recorded,
+        after.state,
+        after.recorded,
+    );
     tell_started(answer, verdict, sections)
 }
 
@@ -91,8 +96,9 @@ pub fn clear_flags(state: &[u32], recorded: &mut [u32], mem: &[u32], mask: u32) 
     let r = take_record(recorded);
     let after = overview::clear_flags(s, r, mem, mask);
     let reply = after.reply;
-    put_record(recorded, after.recorded);
-    reply_number(reply)
+    let number = reply_number(reply);
+    leave_record(number == 0, recorded, after.recorded);
+    number
 }
 
 // Tells how the rings stand, and how many buffers are pending.

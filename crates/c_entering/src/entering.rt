@@ -11,7 +11,7 @@ ghost use mathlib.Core.Bool.{_&&_};
 ghost use lib.Dec.{eqb};
 ghost use Rattle.c_words.specs.Frames.{plainFrame};
 ghost use Rattle.c_words.specs.States.{plainRegisters};
-ghost use Rattle.c_entering.specs.Entering.{has, entryNumber};
+ghost use Rattle.c_entering.specs.Entering.{has, entryNumber, sized};
 
 // A lent buffer that has a length of its own has another.
 pub const WRONG_LENGTH: u32 = 100;
@@ -19,27 +19,34 @@ pub const WRONG_LENGTH: u32 = 100;
 // A word that says yes or no is neither 0 nor 1.
 pub const NEITHER: u32 = 101;
 
-// The number to return at once, 0 for none. Told are whether the call's own buffers have their lengths, and its own
-// words say yes or no.
-pub fn enter(state: &[u32], recorded: &[u32], lengths: bool, words: bool) -> u32
-    ensures { λ n. ⌜ n ≡ entryNumber (now (state .entry)) (now (recorded .entry)) lengths words ⌝ }
+// The number to return at once, 0 for none. Told are whether all buffers have their lengths, and all words that say yes
+// or no say so.
+fn judge(lengths: bool, words: bool) -> u32
+    ensures { λ n. ⌜ n ≡ entryNumber lengths words ⌝ }
 {
-    if !((state.len() == STATE_WORDS) & (recorded.len() == RECORD_WORDS) & lengths) {
+    if !lengths {
         return WRONG_LENGTH;
     }
-    if !(is_plain_registers(state) & words) {
+    if !words {
         return NEITHER;
     }
     0
 }
 
-// The same with registers and an answer of so many words.
-pub fn enter_registers(state: &[u32], recorded: &[u32], registers: &[u32], answer: usize) -> u32
-    ensures { λ n. ⌜ n ≡ entryNumber (now (state .entry)) (now (recorded .entry))
-        (has (now (registers .entry)) 14 && eqb answer 16) (plainRegisters (now (registers .entry))) ⌝ }
+fn is_sized(state: usize, recorded: usize) -> bool
+    ensures { λ b. ⌜ b ≡ (eqb state 27 && eqb recorded 2) ⌝ }
 {
-    let lengths = (registers.len() == REGISTER_WORDS) & (answer == ANSWER_WORDS);
-    enter(state, recorded, lengths, is_plain_registers(registers))
+    (state == STATE_WORDS) & (recorded == RECORD_WORDS)
+}
+
+// Of a call on a state, whose own buffers have their lengths, and whose own words say yes or no.
+pub fn enter(state: &[u32], recorded: &[u32], lengths: bool, words: bool) -> u32
+    ensures { λ n. ⌜ n ≡ entryNumber (sized (now (state .entry)) (now (recorded .entry)) && lengths)
+        (plainRegisters (now (state .entry)) && words) ⌝ }
+{
+    let box_sized = is_sized(state.len(), recorded.len());
+    let box_plain = is_plain_registers(state);
+    judge(box_sized & lengths, box_plain & words)
 }
 
 // The same with a frame and an answer of so many words.
@@ -50,9 +57,21 @@ pub fn enter_frame(
     answer: usize,
     words: bool,
 ) -> u32
-    ensures { λ n. ⌜ n ≡ entryNumber (now (state .entry)) (now (recorded .entry))
-        (has (now (frame .entry)) 7 && eqb answer 16) (words && plainFrame (now (frame .entry))) ⌝ }
+    ensures { λ n. ⌜ n ≡ entryNumber
+        (sized (now (state .entry)) (now (recorded .entry)) && (has (now (frame .entry)) 7 && eqb answer 16))
+        (plainRegisters (now (state .entry)) && (words && plainFrame (now (frame .entry)))) ⌝ }
 {
     let lengths = (frame.len() == FRAME_WORDS) & (answer == ANSWER_WORDS);
     enter(state, recorded, lengths, words & is_plain_frame(frame))
+}
+
+// Of a start: a state, a record and an answer of so many words, and registers. The old state may be any words.
+pub fn enter_start(state: usize, recorded: usize, registers: &[u32], answer: usize) -> u32
+    ensures { λ n. ⌜ n ≡ entryNumber
+        ((eqb state 27 && eqb recorded 2) && (has (now (registers .entry)) 14 && eqb answer 16))
+        (plainRegisters (now (registers .entry))) ⌝ }
+{
+    let box_sized = is_sized(state, recorded);
+    let lengths = (registers.len() == REGISTER_WORDS) & (answer == ANSWER_WORDS);
+    judge(box_sized & lengths, is_plain_registers(registers))
 }

@@ -2,8 +2,10 @@
 -- Assumes nothing.
 use Prim.Native.Nat.{ℕ}
 use mathlib.Core.Path.{_≡_, ap, ap₂, _∙_}
-use mathlib.Core.Bool.{true}
+use mathlib.Core.Bool.{true, _&&_}
 use mathlib.Core.List.{List, []}
+use lib.Dec.{eqb}
+use Rattle.words.specs.Choice.{pick}
 use Rattle.shape.specs.Calls.{outcome, settles}
 use Rattle.shape.proofs.Calls.{calls-are-shaped}
 use Rattle.frame.specs.declared.Frame.{Frame}
@@ -18,9 +20,9 @@ use Rattle.taking.specs.Reading.{meaning as readSays, readFifo, readBuffer}
 use Rattle.taking.specs.Releasing.{acknowledgeFifo, releaseBuffer}
 use Rattle.taking.specs.declared.reading.ReadAnswer.{ReadAnswer}
 use Rattle.c_words.specs.Frames.{unpackFrame}
-use Rattle.c_words.specs.States.{unpackState, packState, ComesBack, unpackRecord}
+use Rattle.c_words.specs.States.{plainRegisters, unpackState, packState, ComesBack, unpackRecord}
 use Rattle.c_answers.specs.Answers.{resultOf, toldIn, noWords, readWords}
-use Rattle.c_entering.specs.Entering.{Lent, lent, returned, has, entryNumber, crossing, worldOf, inWords}
+use Rattle.c_entering.specs.Entering.{Lent, lent, returned, has, entryNumber, sized, crossing, worldOf, inWords}
 use Rattle.c_entering.proofs.Entries.{open-recorded}
 use Rattle.c_entering.proofs.Crossed.{Stays, untold, same-state, same-recorded, told-of}
 use Rattle.c_receiving.specs.ReceivingCalls.{readFifoCall, acknowledgeFifoCall, readBufferCall, releaseBufferCall}
@@ -40,7 +42,8 @@ module _ (state recorded mem answer : List ℕ) (n : ℕ) (f : n ≡ 0) (s : Sta
   -- ---- calls 3 and 5 leave the state and the record
 
   module _ (out : List ℕ) (a : ReadAnswer) (k : ℕ) (m after : List ℕ)
-      (d : n ≡ entryNumber state recorded (has answer 16) true) (p : k ≡ resultOf (readSays a))
+      (d : n ≡ entryNumber (sized state recorded && has answer 16) (plainRegisters state && true))
+      (p : k ≡ resultOf (readSays a))
       (z : m ≡ toldIn readWords answer (readSays a)) where
     abbrev L : Lent
     L = lent state recorded mem answer out
@@ -50,9 +53,9 @@ module _ (state recorded mem answer : List ℕ) (n : ℕ) (f : n ≡ 0) (s : Sta
         → returned k (lent state recorded mem m after)
         ≡ crossing L (has answer 16) true (inWords L readWords (F (worldOf L)))
     read-told F stays h =
-        let two = open-recorded state recorded (has answer 16) true n d f in
+        let two = open-recorded state recorded (has answer 16) (plainRegisters state && true) n d f in
         told-of state recorded mem answer out (has answer 16) true n d f k state recorded m s r
-        (same-state state s back x) (same-recorded recorded r two y) s r x back y
+        (same-state (eqb k 0) state s back x) (same-recorded (eqb k 0) recorded r two y) s r x back y
         readWords F stays (readSays a) mem after h p z
 
     pub fifo-read : (fifo place : ℕ)
@@ -70,8 +73,9 @@ module _ (state recorded mem answer : List ℕ) (n : ℕ) (f : n ≡ 0) (s : Sta
 
   -- ---- calls 4 and 6 leave the record, and have nothing to tell
 
-  module _ (a : Reply) (t : State) (k : ℕ) (st : List ℕ) (d : n ≡ entryNumber state recorded true true)
-      (p : k ≡ resultOf (replied a)) (e : st ≡ packState t) where
+  module _ (a : Reply) (t : State) (k : ℕ) (st : List ℕ)
+      (d : n ≡ entryNumber (sized state recorded && true) (plainRegisters state && true))
+      (p : k ≡ resultOf (replied a)) (e : st ≡ pick (eqb k 0) (packState t) state) where
     abbrev M : Lent
     M = lent state recorded mem answer []
 
@@ -79,9 +83,9 @@ module _ (state recorded mem answer : List ℕ) (n : ℕ) (f : n ≡ 0) (s : Sta
         → settles (replied a) (world t r mem) ≡ F (world s r mem)
         → returned k (lent st recorded mem answer []) ≡ crossing M true true (inWords M noWords (F (worldOf M)))
     release-told F stays h =
-        let two = open-recorded state recorded true true n d f in
+        let two = open-recorded state recorded true (plainRegisters state && true) n d f in
         told-of state recorded mem answer [] true true n d f k st recorded answer t r
-        e (same-recorded recorded r two y) s r x back y
+        e (same-recorded (eqb k 0) recorded r two y) s r x back y
         noWords F stays (replied a) mem [] h p (untold answer (replied a))
 
     pub fifo-acknowledged : (fifo place : ℕ)

@@ -1,7 +1,7 @@
 // Calls 4 and 6 on words.
 use c_answers::numbers::reply_number;
 use c_entering::entering::enter;
-use c_words::states::put_state;
+use c_words::states::leave_state;
 use c_words::states::take_record;
 use c_words::states::take_state;
 use taking::releasing;
@@ -30,8 +30,9 @@ pub fn acknowledge_fifo(
     let r = take_record(recorded);
     let after = releasing::acknowledge_fifo(s, r, mem, fifo, place);
     let reply = after.reply;
-    put_state(state, after.state);
-    reply_number(reply)
+    let number = reply_number(reply);
+    leave_state(number == 0, state, after.state);
+    number
 }
 
 // Releases an Rx buffer.
@@ -47,6 +48,7 @@ pub fn release_buffer(state: &mut [u32], recorded: &[u32], mem: &[u32], buffer: 
     let r = take_record(recorded);
     let after = releasing::release_buffer(s, r, mem, buffer);
     let reply = after.reply;
-    put_state(state, after.state);
-    reply_number(reply)
+    let number = reply_number(reply);
+    leave_state(number == 0, state, after.state);
+    number
 }

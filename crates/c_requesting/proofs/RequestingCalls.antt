@@ -4,6 +4,8 @@ use Prim.Native.Nat.{ℕ}
 use mathlib.Core.Path.{_≡_, ap, _∙_}
 use mathlib.Core.Bool.{true, _&&_}
 use mathlib.Core.List.{List, []}
+use lib.Dec.{eqb}
+use Rattle.words.specs.Choice.{pick}
 use Rattle.shape.specs.Calls.{settles}
 use Rattle.shape.proofs.Calls.{calls-are-shaped}
 use Rattle.element.specs.declared.TxHeader.{TxHeader}
@@ -16,10 +18,10 @@ use Rattle.requesting.specs.Cancelling.{cancel}
 use Rattle.requesting.specs.Requesting.{meaning as requestSays, requestDedicated, requestShared}
 use Rattle.requesting.specs.declared.requesting.Requested.{Requested}
 use Rattle.c_words.specs.Frames.{plainFrame, unpackRequest}
-use Rattle.c_words.specs.States.{unpackState, packState, ComesBack, unpackRecord, packRecord}
+use Rattle.c_words.specs.States.{plainRegisters, unpackState, packState, ComesBack, unpackRecord, packRecord}
 use Rattle.c_words.specs.Words.{isYesNo}
 use Rattle.c_answers.specs.Answers.{resultOf, toldIn, noWords, bufferWords}
-use Rattle.c_entering.specs.Entering.{lent, returned, has, entryNumber, crossing, worldOf, inWords}
+use Rattle.c_entering.specs.Entering.{lent, returned, has, entryNumber, sized, crossing, worldOf, inWords}
 use Rattle.c_entering.proofs.Entries.{open-recorded}
 use Rattle.c_entering.proofs.Crossed.{Stays, untold, same-recorded, told-of}
 use Rattle.c_requesting.specs.RequestingCalls.{requestDedicatedCall, requestSharedCall, cancelCall}
@@ -29,8 +31,9 @@ module _ (state recorded mem answer : List ℕ) (n : ℕ) (f : n ≡ 0) (s : Sta
   -- calls 7 and 8
   module _ (frame bytes : List ℕ) (marker wish : ℕ) (h : TxHeader) (v : h ≡ unpackRequest frame marker wish)
       (a : Requested) (t : State) (k : ℕ) (st me m : List ℕ)
-      (d : n ≡ entryNumber state recorded (has frame 7 && has answer 16) (isYesNo wish && plainFrame frame))
-      (e : st ≡ packState t) (p : k ≡ resultOf (requestSays a)) (z : m ≡ toldIn bufferWords answer (requestSays a))
+      (d : n ≡ entryNumber (sized state recorded && (has frame 7 && has answer 16))
+      (plainRegisters state && (isYesNo wish && plainFrame frame)))
+      (e : st ≡ pick (eqb k 0) (packState t) state) (p : k ≡ resultOf (requestSays a)) (z : m ≡ toldIn bufferWords answer (requestSays a))
     where
       requested : (F : World → TxHeader → Outcome ℕ) → let l = lent state recorded mem answer [] in
           Stays (worldOf l) [] (F (worldOf l) (unpackRequest frame marker wish))
@@ -40,7 +43,7 @@ module _ (state recorded mem answer : List ℕ) (n : ℕ) (f : n ≡ 0) (s : Sta
           (inWords l bufferWords (F (worldOf l) (unpackRequest frame marker wish)))
       requested F stays u =
           let two = open-recorded state recorded _ _ n d f in
-          told-of state recorded mem answer [] _ _ n d f k st recorded m t r e (same-recorded recorded r two y)
+          told-of state recorded mem answer [] _ _ n d f k st recorded m t r e (same-recorded (eqb k 0) recorded r two y)
           s r x back y
           bufferWords (λ (w : World). F w (unpackRequest frame marker wish)) stays (requestSays a) me []
           (u ∙ ap (F (world s r mem)) v) p z
@@ -63,9 +66,9 @@ module _ (state recorded mem answer : List ℕ) (n : ℕ) (f : n ≡ 0) (s : Sta
 
   -- call 9
   pub cancel-made : (buffer : ℕ) (a : Reply) (t : State) (q : Record) (k : ℕ) (st re : List ℕ)
-      → n ≡ entryNumber state recorded true true
+      → n ≡ entryNumber (sized state recorded && true) (plainRegisters state && true)
       → settles (replied a) (world t q mem) ≡ cancel (world s r mem) buffer → k ≡ resultOf (replied a)
-      → st ≡ packState t → re ≡ packRecord q
+      → st ≡ pick (eqb k 0) (packState t) state → re ≡ pick (eqb k 0) (packRecord q) recorded
       → returned k (lent st re mem answer []) ≡ cancelCall (lent state recorded mem answer []) buffer
   unfolding cancelCall
   cancel-made buffer a t q k st re d u p e v =

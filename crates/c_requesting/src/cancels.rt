@@ -1,7 +1,7 @@
 // Call 9 on words.
 use c_answers::numbers::reply_number;
 use c_entering::entering::enter;
-use c_words::states::put_both;
+use c_words::states::leave_both;
 use c_words::states::take_record;
 use c_words::states::take_state;
 use requesting::cancelling;
@@ -23,6 +23,7 @@ pub fn cancel(state: &mut [u32], recorded: &mut [u32], mem: &[u32], buffer: u32)
     let r = take_record(recorded);
     let after = cancelling::cancel(s, r, mem, buffer);
     let reply = after.reply;
-    put_both(state, recorded, after.state, after.recorded);
-    reply_number(reply)
+    let number = reply_number(reply);
+    leave_both(number == 0, state, recorded, after.state, after.recorded);
+    number
 }

@@ -3,7 +3,7 @@ use c_answers::ANSWER_WORDS;
 use c_answers::numbers::reply_number;
 use c_answers::sending_answers::tell_event;
 use c_entering::entering::enter;
-use c_words::states::put_state;
+use c_words::states::leave_state;
 use c_words::states::take_record;
 use c_words::states::take_state;
 ghost use mathlib.Core.Path.{_≡_};
@@ -46,6 +46,7 @@ pub fn acknowledge_event(state: &mut [u32], recorded: &[u32], mem: &[u32], place
     let r = take_record(recorded);
     let after = events::acknowledge_event(s, r, mem, place);
     let reply = after.reply;
-    put_state(state, after.state);
-    reply_number(reply)
+    let number = reply_number(reply);
+    leave_state(number == 0, state, after.state);
+    number
 }

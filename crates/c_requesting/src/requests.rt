@@ -2,29 +2,32 @@
 use c_answers::sending_answers::tell_requested;
 use c_entering::entering::enter_frame;
 use c_words::frames::take_request;
-use c_words::states::put_state;
+use c_words::states::leave_state;
 use c_words::states::take_record;
 use c_words::states::take_state;
 use requesting::requesting::AfterRequest;
 ghost use mathlib.Core.Path.{_≡_};
 ghost use mathlib.Core.List.{[]};
+ghost use lib.Dec.{eqb};
 ghost use lib.ListN.{length};
+ghost use Rattle.words.specs.Choice.{pick};
 ghost use Rattle.requesting.specs.Requesting.{meaning as requestSays};
 ghost use Rattle.c_words.specs.States.{packState};
 ghost use Rattle.c_answers.specs.Answers.{resultOf, toldIn, bufferWords};
 ghost use Rattle.c_entering.specs.Entering.{returned, lent};
 ghost use Rattle.c_requesting.specs.RequestingCalls.{requestDedicatedCall, requestSharedCall};
 
-// The state after a request is put, and its answer told.
+// The answer of a request is told, and the state after it left where it was accepted.
 fn leave_request(state: &mut [u32], answer: &mut [u32], after: AfterRequest) -> u32
     requires { ⌜ (length (now state) ≡ 27) × (length (now answer) ≡ 16) ⌝ }
     ensures { λ n. ⌜ (n ≡ resultOf (requestSays (after .answer)))
-        × (now (state .exit) ≡ packState (after .state))
+        × (now (state .exit) ≡ pick (eqb n 0) (packState (after .state)) (now (state .entry)))
         × (now (answer .exit) ≡ toldIn bufferWords (now (answer .entry)) (requestSays (after .answer))) ⌝ }
 {
     let told = after.answer;
-    put_state(state, after.state);
-    tell_requested(answer, told)
+    let number = tell_requested(answer, told);
+    leave_state(number == 0, state, after.state);
+    number
 }
 
 // Requests a dedicated buffer.

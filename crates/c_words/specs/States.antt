@@ -4,6 +4,7 @@ use mathlib.Core.Path.{_≡_}
 use mathlib.Core.Bool.{Bool, _&&_}
 use mathlib.Core.List.{List, [], _∷_}
 use Rattle.ring.specs.declared.Ring.{Ring}
+use Rattle.registers.specs.Given.{registersFrom}
 use Rattle.registers.specs.declared.Registers.{Registers}
 use Rattle.engine.specs.declared.state.State.{State}
 use Rattle.engine.specs.declared.state.Record.{Record}
@@ -11,22 +12,7 @@ use Rattle.c_words.specs.Words.{word, yesNo, saysYes, isYesNo}
 
 -- the registers are words 0 to 13
 abbrev pub unpackRegisters : List ℕ → Registers
-unpackRegisters ws = record {
-  sidfc = record { word = word ws 0 };
-  xidfc = record { word = word ws 1 };
-  rxf0c = record { word = word ws 2 };
-  rxf1c = record { word = word ws 3 };
-  rxbc = record { word = word ws 4 };
-  rxesc = record { word = word ws 5 };
-  txefc = record { word = word ws 6 };
-  txbc = record { word = word ws 7 };
-  txesc = record { word = word ws 8 };
-  gfc = record { word = word ws 9 };
-  xidam = record { word = word ws 10 };
-  buffers = word ws 11;
-  fdon = saysYes (word ws 12);
-  rateon = saysYes (word ws 13);
-}
+unpackRegisters ws = registersFrom (word ws) (saysYes (word ws 12)) (saysYes (word ws 13))
 
 -- 12 and 13 say yes or no
 abbrev pub plainRegisters : List ℕ → Bool

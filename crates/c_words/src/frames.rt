@@ -2,7 +2,7 @@
 use crate::buffers::word_at;
 use element::TxHeader;
 use frame::Frame;
-use frame::bit_of;
+use words::bit_of;
 ghost use mathlib.Core.Path.{_≡_};
 ghost use lib.ListN.{length};
 ghost use Rattle.c_words.specs.Frames.{plainFrame, unpackFrame, packFrame, unpackRequest};

@@ -3,23 +3,14 @@ use crate::buffers::put;
 use crate::buffers::word_at;
 use engine::state::Record;
 use engine::state::State;
-use frame::bit_of;
 use registers::Registers;
-use registers::kinds::Gfc;
-use registers::kinds::Rxbc;
-use registers::kinds::Rxesc;
-use registers::kinds::Rxfc;
-use registers::kinds::Sidfc;
-use registers::kinds::Txbc;
-use registers::kinds::Txefc;
-use registers::kinds::Txesc;
-use registers::kinds::Xidam;
-use registers::kinds::Xidfc;
 use ring::Ring;
+use words::bit_of;
 ghost use mathlib.Core.Path.{_≡_};
 ghost use Prim.Native.Nat.{_+_, _*_, _^_, _≤_, _<_};
 ghost use lib.ListN.{length};
-ghost use Rattle.c_words.specs.Needs.{StateWords, BoxWords};
+ghost use Rattle.words.specs.Choice.{pick};
+ghost use Rattle.c_words.specs.Needs.{StateWords};
 ghost use Rattle.c_words.specs.States.{plainRegisters, unpackRegisters, unpackRing, unpackState, packState};
 ghost use Rattle.c_words.specs.States.{ComesBack};
 ghost use Rattle.c_words.specs.States.{unpackRecord, packRecord};
@@ -43,22 +34,7 @@ pub fn take_registers(words: &[u32]) -> Registers
     requires { ⌜ 14 ≤ length (now words) ⌝ }
     ensures { λ r. ⌜ r ≡ unpackRegisters (now (words .entry)) ⌝ }
 {
-    Registers {
-        sidfc: Sidfc { word: words[0] },
-        xidfc: Xidfc { word: words[1] },
-        rxf0c: Rxfc { word: words[2] },
-        rxf1c: Rxfc { word: words[3] },
-        rxbc: Rxbc { word: words[4] },
-        rxesc: Rxesc { word: words[5] },
-        txefc: Txefc { word: words[6] },
-        txbc: Txbc { word: words[7] },
-        txesc: Txesc { word: words[8] },
-        gfc: Gfc { word: words[9] },
-        xidam: Xidam { word: words[10] },
-        buffers: words[11],
-        fdon: words[12] == 1,
-        rateon: words[13] == 1,
-    }
+    Registers::from_words(words, words[12] == 1, words[13] == 1)
 }
 
 fn take_ring(words: &[u32], at: usize) -> Ring
@@ -78,10 +54,10 @@ fn joined(low: u32, high: u32) -> u64
     low as u64 + high as u64 * 0x1_0000_0000
 }
 
-// Packed again it gives the same words.
-pub fn take_state(words: &[u32]) -> State
-    requires { ⌜ StateWords (now words) ⌝ }
-    ensures { λ s. ⌜ (s ≡ unpackState (now (words .entry))) × ComesBack (now (words .entry)) ⌝ }
+// The state that stands in any words; another word than 1 says no.
+pub fn take_any_state(words: &[u32]) -> State
+    requires { ⌜ length (now words) ≡ 27 ⌝ }
+    ensures { λ s. ⌜ s ≡ unpackState (now (words .entry)) ⌝ }
 {
     let regs = take_registers(words);
     let fifo0 = take_ring(words, 14);
@@ -99,6 +75,14 @@ pub fn take_state(words: &[u32]) -> State
         sent: words[25],
         cancelled: words[26],
     }
+}
+
+// Packed again it gives the same words.
+pub fn take_state(words: &[u32]) -> State
+    requires { ⌜ StateWords (now words) ⌝ }
+    ensures { λ s. ⌜ (s ≡ unpackState (now (words .entry))) × ComesBack (now (words .entry)) ⌝ }
+{
+    take_any_state(words)
 }
 
 fn pack_state(s: State) -> [u32; 27]
@@ -155,18 +139,39 @@ pub fn take_record(words: &[u32]) -> Record
     }
 }
 
-pub fn put_record(words: &mut [u32], r: Record)
+fn put_record(words: &mut [u32], r: Record)
     requires { ⌜ length (now words) ≡ 2 ⌝ }
     ensures { λ _. ⌜ now (words .exit) ≡ packRecord r ⌝ }
 {
     put(words, 0, &[r.flags, r.priority])
 }
 
-// The state and its record at once.
-pub fn put_both(state: &mut [u32], recorded: &mut [u32], s: State, r: Record)
-    requires { ⌜ BoxWords (now state) (now recorded) ⌝ }
-    ensures { λ _. ⌜ (now (state .exit) ≡ packState s) × (now (recorded .exit) ≡ packRecord r) ⌝ }
+// Leaves a state where the call was accepted: a refused one stores nothing.
+pub fn leave_state(accepted: bool, words: &mut [u32], s: State)
+    requires { ⌜ length (now words) ≡ 27 ⌝ }
+    ensures { λ _. ⌜ now (words .exit) ≡ pick accepted (packState s) (now (words .entry)) ⌝ }
 {
-    put_state(state, s);
-    put_record(recorded, r)
+    if accepted {
+        put_state(words, s)
+    }
+}
+
+// The same of a record.
+pub fn leave_record(accepted: bool, words: &mut [u32], r: Record)
+    requires { ⌜ length (now words) ≡ 2 ⌝ }
+    ensures { λ _. ⌜ now (words .exit) ≡ pick accepted (packRecord r) (now (words .entry)) ⌝ }
+{
+    if accepted {
+        put_record(words, r)
+    }
+}
+
+// The same of both.
+pub fn leave_both(accepted: bool, state: &mut [u32], recorded: &mut [u32], s: State, r: Record)
+    requires { ⌜ (length (now state) ≡ 27) × (length (now recorded) ≡ 2) ⌝ }
+    ensures { λ _. ⌜ (now (state .exit) ≡ pick accepted (packState s) (now (state .entry)))
+        × (now (recorded .exit) ≡ pick accepted (packRecord r) (now (recorded .entry))) ⌝ }
+{
+    leave_state(accepted, state, s);
+    leave_record(accepted, recorded, r)
 }

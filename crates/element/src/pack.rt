@@ -3,7 +3,7 @@ use crate::Arrival;
 use crate::TxHeader;
 use frame::Frame;
 use frame::Matched;
-use frame::bit_of;
+use words::bit_of;
 ghost use mathlib.Core.Path.{_≡_};
 ghost use Prim.Native.Nat.{_*_, _^_, _≤_, _<_};
 ghost use Rattle.frame.specs.Identifier.{IdInKind};

@@ -83,6 +83,6 @@ pub fn priority_word(xtd: bool, index: u32, outcome: u32, place: u32) -> u32
     requires { ⌜ (index < 128) × (outcome < 4) × (place < 64) ⌝ }
     ensures { λ w. ⌜ w ≡ priorityWord xtd index outcome place ⌝ }
 {
-    let list = frame::bit_of(xtd);
+    let list = words::bit_of(xtd);
     list * 0x8000 + index * 0x100 + outcome * 0x40 + place
 }

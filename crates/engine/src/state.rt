@@ -1,15 +1,5 @@
 // What the engine remembers between calls, and the record of flags and priority.
 use registers::Registers;
-use registers::kinds::Gfc;
-use registers::kinds::Rxbc;
-use registers::kinds::Rxesc;
-use registers::kinds::Rxfc;
-use registers::kinds::Sidfc;
-use registers::kinds::Txbc;
-use registers::kinds::Txefc;
-use registers::kinds::Txesc;
-use registers::kinds::Xidam;
-use registers::kinds::Xidfc;
 use ring::Ring;
 ghost use mathlib.Core.Path.{_≡_};
 ghost use Rattle.engine.specs.States.{emptyState, neverStarted, noFlags, fifoRing, withFifo, withEvents};
@@ -60,22 +50,11 @@ impl State {
     pub fn never_started() -> Self
         ensures { λ s. ⌜ s ≡ neverStarted ⌝ }
     {
-        State::empty(Registers {
-            sidfc: Sidfc { word: 0 },
-            xidfc: Xidfc { word: 0 },
-            rxf0c: Rxfc { word: 0 },
-            rxf1c: Rxfc { word: 0 },
-            rxbc: Rxbc { word: 0 },
-            rxesc: Rxesc { word: 0 },
-            txefc: Txefc { word: 0 },
-            txbc: Txbc { word: 0 },
-            txesc: Txesc { word: 0 },
-            gfc: Gfc { word: 0xffff_ffff },
-            xidam: Xidam { word: 0 },
-            buffers: 0,
-            fdon: false,
-            rateon: false,
-        })
+        State::empty(Registers::from_words(
+            &[0, 0, 0, 0, 0, 0, 0, 0, 0, 0xffff_ffff, 0, 0],
+            false,
+            false,
+        ))
     }
 
     // The ring of FIFO 0 or 1.

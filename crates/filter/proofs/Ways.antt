@@ -13,23 +13,23 @@ use Rattle.registers.specs.declared.Registers.{Registers}
 use Rattle.frame.specs.declared.Frame.{Frame}
 use Rattle.frame.specs.declared.Matched.the-variants.{Nothing, Filter}
 use Rattle.filter.specs.Search.{listOf, filterAt, firstMatch}
-use Rattle.filter.specs.Destination.{Goes, toFifo, toBuffer, discarded, remoteField, remoteOut, nonMatching}
+use Rattle.filter.specs.Destination.{Goes, toFifo, toBuffer, discarded, remoteOut, nonMatching}
 use Rattle.filter.specs.Destination.{unmatched, rxBuffer, byAction, bySearch, destination}
 use Rattle.filter.specs.declared.filters.FilterElement.{FilterElement}
 use Rattle.filter.specs.declared.lists.FilterList.{FilterList}
 
-module _ (g : Registers) (xtd : Bool) (b : ℕ) where
-  pub out-long : b ≡ remoteField g true → xtd ≡ true → eqb b 1 ≡ remoteOut g xtd
-  out-long d h = rw (h, d)
+module _ (g : Registers) (xtd : Bool) where
+  pub out-long : (b : Bool) → b ≡ remoteOut g true → xtd ≡ true → b ≡ remoteOut g xtd
+  out-long b d h = rw h d
 
-  pub out-short : b ≡ remoteField g false → xtd ≡ false → eqb b 1 ≡ remoteOut g xtd
-  out-short d h = rw (h, d)
+  pub out-short : (b : Bool) → b ≡ remoteOut g false → xtd ≡ false → b ≡ remoteOut g xtd
+  out-short b d h = rw h d
 
-  pub non-long : b ≡ nonMatching g true → xtd ≡ true → b ≡ nonMatching g xtd
-  non-long d h = rw h d
+  pub non-long : (b : ℕ) → b ≡ nonMatching g true → xtd ≡ true → b ≡ nonMatching g xtd
+  non-long b d h = rw h d
 
-  pub non-short : b ≡ nonMatching g false → xtd ≡ false → b ≡ nonMatching g xtd
-  non-short d h = rw h d
+  pub non-short : (b : ℕ) → b ≡ nonMatching g false → xtd ≡ false → b ≡ nonMatching g xtd
+  non-short b d h = rw h d
 
 pub ruleset globals = (out-long, out-short, non-long, non-short)
 

@@ -44,12 +44,9 @@ meaning (Fifo k priority m) = toFifo k priority m
 meaning (Buffer b i) = toBuffer b i
 meaning (Discarded why m) = discarded (reason why) m
 
--- 1: the field for remote frames of a kind, RRFS, or RRFE of 29 bits: they are out where it is 1
-abbrev pub remoteField : Registers → Bool → ℕ
-remoteField g xtd = pick xtd (rrfe g) (rrfs g)
-
+-- 1: remote frames of a kind are out: RRFS, or RRFE of 29 bits
 abbrev pub remoteOut : Registers → Bool → Bool
-remoteOut g xtd = eqb (remoteField g xtd) 1
+remoteOut g xtd = pick xtd (rrfe g) (rrfs g)
 
 -- 2: the field for frames that no element matches, ANFS, or ANFE of 29 bits: 0 and 1 name a FIFO, the others discard
 abbrev pub nonMatching : Registers → Bool → ℕ

@@ -58,9 +58,9 @@ fn remote_out(regs: Registers, xtd: bool) -> bool
     ensures { λ r. ⌜ r ≡ remoteOut regs xtd ⌝ }
 {
     if xtd {
-        return regs.gfc.rrfe() == 1;
+        return regs.gfc.rrfe();
     }
-    regs.gfc.rrfs() == 1
+    regs.gfc.rrfs()
 }
 
 // What becomes of frames that no filter matches: ANFS or ANFE.

@@ -1,9 +1,9 @@
 // A frame: its data length, whether it is malformed, its rank in arbitration, and its form as sent.
 pub mod sizes;
 
+use words::bit_of;
 ghost use mathlib.Core.Path.{_≡_};
 ghost use Prim.Native.Nat.{_^_, _≤_, _<_};
-ghost use Rattle.words.specs.Choice.{pick};
 ghost use Rattle.frame.specs.Length.{dataLength};
 ghost use Rattle.frame.specs.Identifier.{IdInKind, baseId};
 ghost use Rattle.frame.specs.Malformed.{malformed};
@@ -70,13 +70,6 @@ fn base_id(xtd: bool, id: u32) -> u32
     ensures { λ r. ⌜ (r ≡ baseId xtd id) × (r < 2 ^ 11) ⌝ }
 {
     if xtd { id / 0x4_0000 } else { id }
-}
-
-// A bit of a word: 1 where it is set.
-pub fn bit_of(b: bool) -> u32
-    ensures { λ r. ⌜ (r ≡ pick b 1 0) × (r < 2) ⌝ }
-{
-    if b { 1 } else { 0 }
 }
 
 // What tells frames of one base identifier apart.

@@ -7,6 +7,7 @@ use lib.Dec.{eqb, leb, ltb}
 use lib.ListN.{length, getD}
 use Rattle.words.specs.Choice.{pick}
 use Rattle.words.specs.Least.{leastFrom}
+use Rattle.registers.specs.Given.{registersFrom}
 use Rattle.registers.specs.declared.Registers.{Registers}
 
 -- a byte from low to high
@@ -46,19 +47,4 @@ number s i = numberFrom s (9 * i) 8
 
 -- the lines in their order; FD and the rate switch are no part of the input
 abbrev pub registersOf : List ℕ → Registers
-registersOf s = record {
-  sidfc = record { word = number s 0 };
-  xidfc = record { word = number s 1 };
-  rxf0c = record { word = number s 2 };
-  rxf1c = record { word = number s 3 };
-  rxbc = record { word = number s 4 };
-  rxesc = record { word = number s 5 };
-  txefc = record { word = number s 6 };
-  txbc = record { word = number s 7 };
-  txesc = record { word = number s 8 };
-  gfc = record { word = number s 9 };
-  xidam = record { word = number s 10 };
-  buffers = number s 11;
-  fdon = false;
-  rateon = false;
-}
+registersOf s = registersFrom (number s) false false

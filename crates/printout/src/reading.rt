@@ -1,18 +1,9 @@
 // The twelve numbers of the input.
 use registers::Registers;
-use registers::kinds::Gfc;
-use registers::kinds::Rxbc;
-use registers::kinds::Rxesc;
-use registers::kinds::Rxfc;
-use registers::kinds::Sidfc;
-use registers::kinds::Txbc;
-use registers::kinds::Txefc;
-use registers::kinds::Txesc;
-use registers::kinds::Xidam;
-use registers::kinds::Xidfc;
 ghost use mathlib.Core.Path.{_≡_};
 ghost use mathlib.Core.Bool.{true};
 ghost use Prim.Native.Nat.{_<_};
+ghost use Rattle.words.specs.Runs.{run};
 ghost use Rattle.printout.specs.Input.{digitOf, inPlace, readable, number, registersOf};
 
 // What a hex digit stands for; 16 for a byte that is none.
@@ -65,58 +56,31 @@ fn number_on(input: &[u8], i: usize) -> u32
     n
 }
 
+// The numbers on the twelve lines.
+fn numbers(input: &[u8]) -> [u32; 12]
+    requires { ⌜ readable (now input) ≡ true ⌝ }
+    ensures { λ ws. ⌜ ws ≡ run (number (now (input .entry))) 0 12 ⌝ }
+{
+    [
+        number_on(input, 0),
+        number_on(input, 1),
+        number_on(input, 2),
+        number_on(input, 3),
+        number_on(input, 4),
+        number_on(input, 5),
+        number_on(input, 6),
+        number_on(input, 7),
+        number_on(input, 8),
+        number_on(input, 9),
+        number_on(input, 10),
+        number_on(input, 11),
+    ]
+}
+
 pub(crate) fn registers(input: &[u8]) -> Registers
     requires { ⌜ readable (now input) ≡ true ⌝ }
     ensures { λ r. ⌜ r ≡ registersOf (now (input .entry)) ⌝ }
 {
-    let sidfc = Sidfc {
-        word: number_on(input, 0),
-    };
-    let xidfc = Xidfc {
-        word: number_on(input, 1),
-    };
-    let rxf0c = Rxfc {
-        word: number_on(input, 2),
-    };
-    let rxf1c = Rxfc {
-        word: number_on(input, 3),
-    };
-    let rxbc = Rxbc {
-        word: number_on(input, 4),
-    };
-    let rxesc = Rxesc {
-        word: number_on(input, 5),
-    };
-    let txefc = Txefc {
-        word: number_on(input, 6),
-    };
-    let txbc = Txbc {
-        word: number_on(input, 7),
-    };
-    let txesc = Txesc {
-        word: number_on(input, 8),
-    };
-    let gfc = Gfc {
-        word: number_on(input, 9),
-    };
-    let xidam = Xidam {
-        word: number_on(input, 10),
-    };
-    let buffers = number_on(input, 11);
-    Registers {
-        sidfc,
-        xidfc,
-        rxf0c,
-        rxf1c,
-        rxbc,
-        rxesc,
-        txefc,
-        txbc,
-        txesc,
-        gfc,
-        xidam,
-        buffers,
-        fdon: false,
-        rateon: false,
-    }
+    let words = numbers(input);
+    Registers::from_words(&words, false, false)
 }

@@ -2,9 +2,9 @@
 -- Assumes nothing.
 use Prim.Native.Nat.{ℕ, _*_, _≤_, _<_}
 use mathlib.Core.Path.{_≡_, refl, ap₂, _∙_}
+use mathlib.Core.Bool.{Bool}
 use mathlib.Core.List.{List}
 use native.Mathlib.Omega.{arith}
-use lib.Dec.{eqb}
 use Rattle.words.specs.Runs.{splice}
 use Rattle.ring.specs.declared.Ring.{Ring}
 use Rattle.places.specs.Areas.{placeIn}
@@ -13,7 +13,7 @@ use Rattle.places.specs.declared.Area.{Area}
 use Rattle.places.specs.declared.Slot.{Slot}
 use Rattle.places.specs.declared.Slot.the-variants.{At, Lost}
 use Rattle.registers.specs.Fields.{fifoWord, fifoSize}
-use Rattle.registers.specs.Kinds.{field, rxfcCount, rxfcWatermark, rxfcOverwrite}
+use Rattle.registers.specs.Kinds.{field, flag, rxfcCount, rxfcWatermark, rxfcOverwrite}
 use Rattle.registers.specs.declared.kinds.Rxfc.{Rxfc}
 use Rattle.element.specs.Elements.{rxElement}
 use Rattle.element.specs.declared.Arrival.{Arrival}
@@ -52,11 +52,11 @@ module _ (area : Area) (slot : Slot) where
 
 -- ---- what a FIFO keeps
 
-module _ (s : State) (fifo : ℕ) (w : Rxfc) (size mark mode : ℕ) (q : Ring)
+module _ (s : State) (fifo : ℕ) (w : Rxfc) (size mark : ℕ) (overwrites : Bool) (q : Ring)
     (e : w .word ≡ fifoWord (s .regs) fifo) (a : size ≡ field rxfcCount (w .word))
-    (b : mark ≡ field rxfcWatermark (w .word)) (c : mode ≡ field rxfcOverwrite (w .word)) (y : q ≡ fifoRing s fifo) where
+    (b : mark ≡ field rxfcWatermark (w .word)) (c : overwrites ≡ flag rxfcOverwrite (w .word)) (y : q ≡ fifoRing s fifo) where
   abbrev made : Keeper
-  made = record { size = size; mark = mark; overwrites = eqb mode 1; first = 4 * fifo }
+  made = record { size = size; mark = mark; overwrites = overwrites; first = 4 * fifo }
 
   made-is : made ≡ keeperOf (s .regs) fifo
   made-is = simp (a, b, c, e)

@@ -53,7 +53,7 @@ pub fn keep_in(s: State, fifo: u32, recorded: Record) -> Kept
     let k = Keeper {
         size: w.count(),
         mark: w.watermark(),
-        overwrites: w.overwrite() == 1,
+        overwrites: w.overwrite(),
         first: FIFO_FLAGS * fifo,
     };
     keep(k, s.fifo_ring(fifo), recorded)

@@ -1,4 +1,4 @@
--- Each field's name is of its bits: by computation, and the two flags by their test.
+-- Each field's name is of its bits: by computation, and the flags by their test.
 -- Assumes nothing.
 use mathlib.Core.Path.{_≡_, refl}
 use borrow.Author.Tests.{eqb-true, eq-eqb}
@@ -36,8 +36,8 @@ fields-are-their-bits g = record {
   txCode = refl;
   anfs = refl;
   anfe = refl;
-  rrfs = refl;
-  rrfe = refl;
+  rrfs = (eqb-true _ 1, eq-eqb _ 1);
+  rrfe = (eqb-true _ 1, eq-eqb _ 1);
   xidamMask = refl;
 }
 

@@ -1,2 +1,3 @@
 pub mod Fifos
+pub mod Built
 pub mod Bits

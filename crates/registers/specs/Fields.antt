@@ -3,7 +3,7 @@ use Prim.Native.Nat.{ℕ, _+_}
 use mathlib.Core.Bool.{Bool}
 use lib.Dec.{eqb}
 use Rattle.words.specs.Choice.{pick}
-use Rattle.registers.specs.Kinds.{field, sectionStart, sidfcCount, xidfcCount}
+use Rattle.registers.specs.Kinds.{field, flag, sectionStart, sidfcCount, xidfcCount}
 use Rattle.registers.specs.Kinds.{rxfcOverwrite, rxfcWatermark, rxfcCount, rxescBuffers, rxescFifo1, rxescFifo0}
 use Rattle.registers.specs.Kinds.{txefcWatermark, txefcCount, txbcQueue, txbcShared, txbcDedicated, txescSize}
 use Rattle.registers.specs.Kinds.{gfcAnfs, gfcAnfe, gfcRrfs, gfcRrfe, idMask}
@@ -33,11 +33,11 @@ abbrev pub anfe : Registers → ℕ
 anfe r = field gfcAnfe (r .gfc .word)
 
 -- whether remote frames are rejected, of 11 and of 29 bits
-abbrev pub rrfs : Registers → ℕ
-rrfs r = field gfcRrfs (r .gfc .word)
+abbrev pub rrfs : Registers → Bool
+rrfs r = flag gfcRrfs (r .gfc .word)
 
-abbrev pub rrfe : Registers → ℕ
-rrfe r = field gfcRrfe (r .gfc .word)
+abbrev pub rrfe : Registers → Bool
+rrfe r = flag gfcRrfe (r .gfc .word)
 
 -- the mask of 29-bit identifiers
 abbrev pub xidamMask : Registers → ℕ
@@ -60,7 +60,7 @@ fifoMark r fifo = field rxfcWatermark (fifoWord r fifo)
 
 -- full, it overwrites its oldest; else it blocks
 abbrev pub overwrites : Registers → ℕ → Bool
-overwrites r fifo = eqb (field rxfcOverwrite (fifoWord r fifo)) 1
+overwrites r fifo = flag rxfcOverwrite (fifoWord r fifo)
 
 -- the size code of its elements
 unfoldable pub fifoCode : Registers → ℕ → ℕ
@@ -100,7 +100,7 @@ abbrev pub txCount : Registers → ℕ
 txCount r = dedicated r + shared r
 
 abbrev pub isQueue : Registers → Bool
-isQueue r = eqb (field txbcQueue (r .txbc .word)) 1
+isQueue r = flag txbcQueue (r .txbc .word)
 
 abbrev pub txStart : Registers → ℕ
 txStart r = field sectionStart (r .txbc .word)

@@ -1,4 +1,5 @@
--- What a start is given: whether only named bits are set, and the registers after a reset.
+-- What a start is given: whether only named bits are set, registers from their words, and those after a reset.
+use Prim.Native.Nat.{ℕ}
 use mathlib.Core.Bool.{Bool, false, _&&_}
 use Rattle.words.specs.Fields.{onlyNamed}
 use Rattle.registers.specs.Kinds.{sidfc, xidfc, rxfc, rxbc, rxesc, txefc, txbc, txesc, gfc, xidam}
@@ -18,6 +19,25 @@ allNamed r =
     && onlyNamed txesc (r .txesc .word)
     && onlyNamed gfc (r .gfc .word)
     && onlyNamed xidam (r .xidam .word)
+
+-- the registers of these words, in the order of document 01's table, the number of Rx buffers after them
+abbrev pub registersFrom : (ℕ → ℕ) → Bool → Bool → Registers
+registersFrom word fdon rateon = record {
+  sidfc = record { word = word 0 };
+  xidfc = record { word = word 1 };
+  rxf0c = record { word = word 2 };
+  rxf1c = record { word = word 3 };
+  rxbc = record { word = word 4 };
+  rxesc = record { word = word 5 };
+  txefc = record { word = word 6 };
+  txbc = record { word = word 7 };
+  txesc = record { word = word 8 };
+  gfc = record { word = word 9 };
+  xidam = record { word = word 10 };
+  buffers = word 11;
+  fdon = fdon;
+  rateon = rateon;
+}
 
 -- the manual's reset words: all 0 but XIDAM
 abbrev pub resetRegisters : Registers

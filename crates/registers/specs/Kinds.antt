@@ -1,7 +1,11 @@
 -- The fields of each register kind, each by one name, as document 01's table has them. Every other bit must be 0.
-use Prim.Native.Nat.{ℕ, _+_, _-_, _*_, _^_, _<_}
+use Prim.Native.Nat.{ℕ, _+_, _-_, _^_, _<_}
+use mathlib.Core.Path.{_≡_}
+use mathlib.Core.Bool.{Bool, true}
 use mathlib.Core.List.{List, [], _∷_}
-use Rattle.words.specs.Fields.{bits}
+use lib.Dec.{eqb}
+use Rattle.words.specs.Choice.{pick}
+use Rattle.words.specs.Fields.{bits, onlyNamed}
 
 -- a field by its highest and its lowest bit
 abbrev pub Field : Type 0
@@ -11,12 +15,30 @@ Field = ℕ × ℕ
 abbrev pub field : Field → ℕ → ℕ
 field f w = bits (f .0) (f .1) w
 
--- a number that a field can hold, and the word that has it there and nothing else
-abbrev pub Holds : Field → ℕ → Type 0
-Holds f n = n < 2 ^ (f .0 + 1 - f .1)
+-- a field of one bit that says yes or no
+abbrev pub flag : Field → ℕ → Bool
+flag f w = eqb (field f w) 1
 
-abbrev pub put : Field → ℕ → ℕ
-put f n = n * 2 ^ f .1
+-- yes or no as the number of such a field
+abbrev pub bitOf : Bool → ℕ
+bitOf b = pick b 1 0
+
+-- numbers that can stand in these fields, one for each
+abbrev pub Fit : List Field → List ℕ → Type 0
+Fit [] ns = Unit {0}
+Fit (f ∷ fs) [] = ⊥
+Fit (f ∷ fs) (n ∷ ns) = (n < 2 ^ (f .0 + 1 - f .1)) × Fit fs ns
+
+-- they stand there in a word
+abbrev pub Stand : List Field → List ℕ → ℕ → Type 0
+Stand [] ns w = Unit {0}
+Stand (f ∷ fs) [] w = ⊥
+Stand (f ∷ fs) (n ∷ ns) w = (field f w ≡ n) × Stand fs ns w
+
+-- a word put together of the fields of its kind: each holds its number, and no other bit is set
+pub record Built (kind : List Field) (numbers : List ℕ) (w : ℕ) : Type 0 where
+  pub fields : Stand kind numbers w
+  pub named : onlyNamed kind w ≡ true
 
 -- of every section: the word address of its first word
 abbrev pub sectionStart : Field

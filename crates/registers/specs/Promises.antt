@@ -47,8 +47,8 @@ pub record FieldsAre (g : Registers) : Type 0 where
   -- GFC and XIDAM
   pub anfs : Fields.anfs g ≡ bits 5 4 (g .gfc .word)
   pub anfe : Fields.anfe g ≡ bits 3 2 (g .gfc .word)
-  pub rrfs : Fields.rrfs g ≡ bit (g .gfc .word) 1
-  pub rrfe : Fields.rrfe g ≡ bit (g .gfc .word) 0
+  pub rrfs : (Fields.rrfs g ≡ true) ↔ (bit (g .gfc .word) 1 ≡ 1)
+  pub rrfe : (Fields.rrfe g ≡ true) ↔ (bit (g .gfc .word) 0 ≡ 1)
   pub xidamMask : Fields.xidamMask g ≡ bits 28 0 (g .xidam .word)
 
 abbrev pub FieldsAreTheirBits : Type 0

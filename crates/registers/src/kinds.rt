@@ -1,10 +1,11 @@
 // A type for each register kind: its reset word, its legal bits, the most its count may be, and where its fields stand.
 // A field is `word / AT % SIZE`, at the bits that specs/Kinds gives it; `new` puts a word together from its fields.
 use words::WordAddress;
+use words::bit_of;
 ghost use mathlib.Core.Path.{_≡_};
-ghost use Prim.Native.Nat.{_+_};
+ghost use mathlib.Core.List.{[], _∷_};
 ghost use Rattle.words.specs.Fields.{onlyNamed};
-ghost use Rattle.registers.specs.Kinds.{field, put, Holds, sectionStart};
+ghost use Rattle.registers.specs.Kinds.{field, flag, bitOf, Fit, Built, sectionStart};
 ghost use Rattle.registers.specs.Kinds.{sidfc, sidfcCount, xidfc, xidfcCount, rxfc, rxfcOverwrite, rxfcWatermark};
 ghost use Rattle.registers.specs.Kinds.{rxfcCount, rxbc, rxesc, rxescBuffers, rxescFifo1, rxescFifo0};
 ghost use Rattle.registers.specs.Kinds.{txefc, txefcWatermark, txefcCount};
@@ -34,10 +35,8 @@ impl Sidfc {
     pub const START_SIZE: u32 = 0x4000;
 
     pub fn new(count: u32, start: WordAddress) -> Self
-        requires { ⌜ Holds sidfcCount count × Holds sectionStart (start .0) ⌝ }
-        ensures { λ r. ⌜ (r .word ≡ put sidfcCount count + put sectionStart (start .0))
-            × (field sidfcCount (r .word) ≡ count)
-            × (field sectionStart (r .word) ≡ start .0) ⌝ }
+        requires { ⌜ Fit sidfc (count ∷ start .0 ∷ []) ⌝ }
+        ensures { λ r. ⌜ Built sidfc (count ∷ start .0 ∷ []) (r .word) ⌝ }
     {
         Self {
             word: count * Self::COUNT_AT + start.0 * Self::START_AT,
@@ -86,10 +85,8 @@ impl Xidfc {
     pub const START_SIZE: u32 = 0x4000;
 
     pub fn new(count: u32, start: WordAddress) -> Self
-        requires { ⌜ Holds xidfcCount count × Holds sectionStart (start .0) ⌝ }
-        ensures { λ r. ⌜ (r .word ≡ put xidfcCount count + put sectionStart (start .0))
-            × (field xidfcCount (r .word) ≡ count)
-            × (field sectionStart (r .word) ≡ start .0) ⌝ }
+        requires { ⌜ Fit xidfc (count ∷ start .0 ∷ []) ⌝ }
+        ensures { λ r. ⌜ Built xidfc (count ∷ start .0 ∷ []) (r .word) ⌝ }
     {
         Self {
             word: count * Self::COUNT_AT + start.0 * Self::START_AT,
@@ -143,30 +140,22 @@ impl Rxfc {
 
     pub const START_SIZE: u32 = 0x4000;
 
-    pub fn new(overwrite: u32, watermark: u32, count: u32, start: WordAddress) -> Self
-        requires { ⌜ Holds rxfcOverwrite overwrite
-            × Holds rxfcWatermark watermark
-            × Holds rxfcCount count
-            × Holds sectionStart (start .0) ⌝ }
-        ensures { λ r. ⌜ (r .word ≡ put rxfcOverwrite overwrite + put rxfcWatermark watermark
-            + put rxfcCount count + put sectionStart (start .0))
-            × (field rxfcOverwrite (r .word) ≡ overwrite)
-            × (field rxfcWatermark (r .word) ≡ watermark)
-            × (field rxfcCount (r .word) ≡ count)
-            × (field sectionStart (r .word) ≡ start .0) ⌝ }
+    pub fn new(overwrite: bool, watermark: u32, count: u32, start: WordAddress) -> Self
+        requires { ⌜ Fit rxfc (bitOf overwrite ∷ watermark ∷ count ∷ start .0 ∷ []) ⌝ }
+        ensures { λ r. ⌜ Built rxfc (bitOf overwrite ∷ watermark ∷ count ∷ start .0 ∷ []) (r .word) ⌝ }
     {
         Self {
-            word: overwrite * Self::OVERWRITE_AT
+            word: bit_of(overwrite) * Self::OVERWRITE_AT
                 + watermark * Self::WATERMARK_AT
                 + count * Self::COUNT_AT
                 + start.0 * Self::START_AT,
         }
     }
 
-    pub fn overwrite(self) -> u32
-        ensures { λ r. ⌜ r ≡ field rxfcOverwrite (self .word) ⌝ }
+    pub fn overwrite(self) -> bool
+        ensures { λ r. ⌜ r ≡ flag rxfcOverwrite (self .word) ⌝ }
     {
-        self.word / Self::OVERWRITE_AT % Self::OVERWRITE_SIZE
+        self.word / Self::OVERWRITE_AT % Self::OVERWRITE_SIZE == 1
     }
 
     pub fn watermark(self) -> u32
@@ -211,8 +200,8 @@ impl Rxbc {
     pub const START_SIZE: u32 = 0x4000;
 
     pub fn new(start: WordAddress) -> Self
-        requires { ⌜ Holds sectionStart (start .0) ⌝ }
-        ensures { λ r. ⌜ (r .word ≡ put sectionStart (start .0)) × (field sectionStart (r .word) ≡ start .0) ⌝ }
+        requires { ⌜ Fit rxbc (start .0 ∷ []) ⌝ }
+        ensures { λ r. ⌜ Built rxbc (start .0 ∷ []) (r .word) ⌝ }
     {
         Self {
             word: start.0 * Self::START_AT,
@@ -255,11 +244,8 @@ impl Rxesc {
     pub const FIFO0_SIZE: u32 = 0x8;
 
     pub fn new(buffers: u32, fifo1: u32, fifo0: u32) -> Self
-        requires { ⌜ Holds rxescBuffers buffers × Holds rxescFifo1 fifo1 × Holds rxescFifo0 fifo0 ⌝ }
-        ensures { λ r. ⌜ (r .word ≡ put rxescBuffers buffers + put rxescFifo1 fifo1 + put rxescFifo0 fifo0)
-            × (field rxescBuffers (r .word) ≡ buffers)
-            × (field rxescFifo1 (r .word) ≡ fifo1)
-            × (field rxescFifo0 (r .word) ≡ fifo0) ⌝ }
+        requires { ⌜ Fit rxesc (buffers ∷ fifo1 ∷ fifo0 ∷ []) ⌝ }
+        ensures { λ r. ⌜ Built rxesc (buffers ∷ fifo1 ∷ fifo0 ∷ []) (r .word) ⌝ }
     {
         Self {
             word: buffers * Self::BUFFERS_AT + fifo1 * Self::FIFO1_AT + fifo0 * Self::FIFO0_AT,
@@ -318,11 +304,8 @@ impl Txefc {
     pub const START_SIZE: u32 = 0x4000;
 
     pub fn new(watermark: u32, count: u32, start: WordAddress) -> Self
-        requires { ⌜ Holds txefcWatermark watermark × Holds txefcCount count × Holds sectionStart (start .0) ⌝ }
-        ensures { λ r. ⌜ (r .word ≡ put txefcWatermark watermark + put txefcCount count + put sectionStart (start .0))
-            × (field txefcWatermark (r .word) ≡ watermark)
-            × (field txefcCount (r .word) ≡ count)
-            × (field sectionStart (r .word) ≡ start .0) ⌝ }
+        requires { ⌜ Fit txefc (watermark ∷ count ∷ start .0 ∷ []) ⌝ }
+        ensures { λ r. ⌜ Built txefc (watermark ∷ count ∷ start .0 ∷ []) (r .word) ⌝ }
     {
         Self {
             word: watermark * Self::WATERMARK_AT
@@ -384,30 +367,22 @@ impl Txbc {
 
     pub const START_SIZE: u32 = 0x4000;
 
-    pub fn new(queue: u32, shared: u32, dedicated: u32, start: WordAddress) -> Self
-        requires { ⌜ Holds txbcQueue queue
-            × Holds txbcShared shared
-            × Holds txbcDedicated dedicated
-            × Holds sectionStart (start .0) ⌝ }
-        ensures { λ r. ⌜ (r .word ≡ put txbcQueue queue + put txbcShared shared
-            + put txbcDedicated dedicated + put sectionStart (start .0))
-            × (field txbcQueue (r .word) ≡ queue)
-            × (field txbcShared (r .word) ≡ shared)
-            × (field txbcDedicated (r .word) ≡ dedicated)
-            × (field sectionStart (r .word) ≡ start .0) ⌝ }
+    pub fn new(queue: bool, shared: u32, dedicated: u32, start: WordAddress) -> Self
+        requires { ⌜ Fit txbc (bitOf queue ∷ shared ∷ dedicated ∷ start .0 ∷ []) ⌝ }
+        ensures { λ r. ⌜ Built txbc (bitOf queue ∷ shared ∷ dedicated ∷ start .0 ∷ []) (r .word) ⌝ }
     {
         Self {
-            word: queue * Self::QUEUE_AT
+            word: bit_of(queue) * Self::QUEUE_AT
                 + shared * Self::SHARED_AT
                 + dedicated * Self::DEDICATED_AT
                 + start.0 * Self::START_AT,
         }
     }
 
-    pub fn queue(self) -> u32
-        ensures { λ r. ⌜ r ≡ field txbcQueue (self .word) ⌝ }
+    pub fn queue(self) -> bool
+        ensures { λ r. ⌜ r ≡ flag txbcQueue (self .word) ⌝ }
     {
-        self.word / Self::QUEUE_AT % Self::QUEUE_SIZE
+        self.word / Self::QUEUE_AT % Self::QUEUE_SIZE == 1
     }
 
     pub fn shared(self) -> u32
@@ -450,8 +425,8 @@ impl Txesc {
     pub const SIZE_SIZE: u32 = 0x8;
 
     pub fn new(size: u32) -> Self
-        requires { ⌜ Holds txescSize size ⌝ }
-        ensures { λ r. ⌜ (r .word ≡ put txescSize size) × (field txescSize (r .word) ≡ size) ⌝ }
+        requires { ⌜ Fit txesc (size ∷ []) ⌝ }
+        ensures { λ r. ⌜ Built txesc (size ∷ []) (r .word) ⌝ }
     {
         Self {
             word: size * Self::SIZE_AT,
@@ -497,19 +472,15 @@ impl Gfc {
 
     pub const RRFE_SIZE: u32 = 0x2;
 
-    pub fn new(anfs: u32, anfe: u32, rrfs: u32, rrfe: u32) -> Self
-        requires { ⌜ Holds gfcAnfs anfs × Holds gfcAnfe anfe × Holds gfcRrfs rrfs × Holds gfcRrfe rrfe ⌝ }
-        ensures { λ r. ⌜ (r .word ≡ put gfcAnfs anfs + put gfcAnfe anfe + put gfcRrfs rrfs + put gfcRrfe rrfe)
-            × (field gfcAnfs (r .word) ≡ anfs)
-            × (field gfcAnfe (r .word) ≡ anfe)
-            × (field gfcRrfs (r .word) ≡ rrfs)
-            × (field gfcRrfe (r .word) ≡ rrfe) ⌝ }
+    pub fn new(anfs: u32, anfe: u32, rrfs: bool, rrfe: bool) -> Self
+        requires { ⌜ Fit gfc (anfs ∷ anfe ∷ bitOf rrfs ∷ bitOf rrfe ∷ []) ⌝ }
+        ensures { λ r. ⌜ Built gfc (anfs ∷ anfe ∷ bitOf rrfs ∷ bitOf rrfe ∷ []) (r .word) ⌝ }
     {
         Self {
             word: anfs * Self::ANFS_AT
                 + anfe * Self::ANFE_AT
-                + rrfs * Self::RRFS_AT
-                + rrfe * Self::RRFE_AT,
+                + bit_of(rrfs) * Self::RRFS_AT
+                + bit_of(rrfe) * Self::RRFE_AT,
         }
     }
 
@@ -525,16 +496,16 @@ impl Gfc {
         self.word / Self::ANFE_AT % Self::ANFE_SIZE
     }
 
-    pub fn rrfs(self) -> u32
-        ensures { λ r. ⌜ r ≡ field gfcRrfs (self .word) ⌝ }
+    pub fn rrfs(self) -> bool
+        ensures { λ r. ⌜ r ≡ flag gfcRrfs (self .word) ⌝ }
     {
-        self.word / Self::RRFS_AT % Self::RRFS_SIZE
+        self.word / Self::RRFS_AT % Self::RRFS_SIZE == 1
     }
 
-    pub fn rrfe(self) -> u32
-        ensures { λ r. ⌜ r ≡ field gfcRrfe (self .word) ⌝ }
+    pub fn rrfe(self) -> bool
+        ensures { λ r. ⌜ r ≡ flag gfcRrfe (self .word) ⌝ }
     {
-        self.word / Self::RRFE_AT % Self::RRFE_SIZE
+        self.word / Self::RRFE_AT % Self::RRFE_SIZE == 1
     }
 
     pub fn only_named(self) -> bool
@@ -559,8 +530,8 @@ impl Xidam {
     pub const MASK_SIZE: u32 = 0x2000_0000;
 
     pub fn new(mask: u32) -> Self
-        requires { ⌜ Holds idMask mask ⌝ }
-        ensures { λ r. ⌜ (r .word ≡ put idMask mask) × (field idMask (r .word) ≡ mask) ⌝ }
+        requires { ⌜ Fit xidam (mask ∷ []) ⌝ }
+        ensures { λ r. ⌜ Built xidam (mask ∷ []) (r .word) ⌝ }
     {
         Self {
             word: mask * Self::MASK_AT,

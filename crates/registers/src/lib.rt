@@ -12,9 +12,10 @@ use crate::kinds::Txesc;
 use crate::kinds::Xidam;
 use crate::kinds::Xidfc;
 ghost use mathlib.Core.Path.{_≡_};
-ghost use Prim.Native.Nat.{_<_};
+ghost use Prim.Native.Nat.{_≤_, _<_};
+ghost use lib.ListN.{length, getD};
 ghost use Rattle.registers.specs.Fields.{fifoWord, fifoCode, txCount, isQueue};
-ghost use Rattle.registers.specs.Given.{allNamed, resetRegisters};
+ghost use Rattle.registers.specs.Given.{allNamed, registersFrom, resetRegisters};
 
 // The eleven registers, the number of Rx buffers, and whether FD and the rate switch are on.
 pub struct Registers {
@@ -39,21 +40,46 @@ impl Registers {
     pub fn reset() -> Self
         ensures { λ r. ⌜ r ≡ resetRegisters ⌝ }
     {
+        Self::from_words(
+            &[
+                Sidfc::RESET,
+                Xidfc::RESET,
+                Rxfc::RESET,
+                Rxfc::RESET,
+                Rxbc::RESET,
+                Rxesc::RESET,
+                Txefc::RESET,
+                Txbc::RESET,
+                Txesc::RESET,
+                Gfc::RESET,
+                Xidam::RESET,
+                0,
+            ],
+            false,
+            false,
+        )
+    }
+
+    // The registers of these words, in the order of document 01's table, and after them the number of Rx buffers.
+    pub fn from_words(words: &[u32], fdon: bool, rateon: bool) -> Self
+        requires { ⌜ 12 ≤ length (now words) ⌝ }
+        ensures { λ r. ⌜ r ≡ registersFrom (λ i. getD (now (words .entry)) i 0) fdon rateon ⌝ }
+    {
         Self {
-            sidfc: Sidfc { word: Sidfc::RESET },
-            xidfc: Xidfc { word: Xidfc::RESET },
-            rxf0c: Rxfc { word: Rxfc::RESET },
-            rxf1c: Rxfc { word: Rxfc::RESET },
-            rxbc: Rxbc { word: Rxbc::RESET },
-            rxesc: Rxesc { word: Rxesc::RESET },
-            txefc: Txefc { word: Txefc::RESET },
-            txbc: Txbc { word: Txbc::RESET },
-            txesc: Txesc { word: Txesc::RESET },
-            gfc: Gfc { word: Gfc::RESET },
-            xidam: Xidam { word: Xidam::RESET },
-            buffers: 0,
-            fdon: false,
-            rateon: false,
+            sidfc: Sidfc { word: words[0] },
+            xidfc: Xidfc { word: words[1] },
+            rxf0c: Rxfc { word: words[2] },
+            rxf1c: Rxfc { word: words[3] },
+            rxbc: Rxbc { word: words[4] },
+            rxesc: Rxesc { word: words[5] },
+            txefc: Txefc { word: words[6] },
+            txbc: Txbc { word: words[7] },
+            txesc: Txesc { word: words[8] },
+            gfc: Gfc { word: words[9] },
+            xidam: Xidam { word: words[10] },
+            buffers: words[11],
+            fdon,
+            rateon,
         }
     }
 
@@ -106,6 +132,6 @@ impl Registers {
     pub fn is_queue(self) -> bool
         ensures { λ b. ⌜ b ≡ isQueue self ⌝ }
     {
-        self.txbc.queue() == 1
+        self.txbc.queue()
     }
 }

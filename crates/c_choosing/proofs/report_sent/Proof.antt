@@ -1,6 +1,6 @@
 -- Where it is let in, the law of a call that has nothing to tell.
 use Rattle.c_choosing.specs.ChoosingCalls.{reportSentCall}
-use Rattle.c_entering.proofs.Entries.{turned-away, open-box}
+use Rattle.c_entering.proofs.Entries.{turned-away, open-box, open-size, open-recorded}
 use Rattle.c_choosing.proofs.ChoosingCalls.{report-told}
 use borrow.Author.Needs.{needs}
 use Rattle.c_choosing.proofs.report_sent.Statement.{statement}
@@ -17,6 +17,7 @@ report-sent-spec =
     (λ c κs. search needs) (λ c. search needs) (λ c. search needs)
     returns
     (λ c κs. search (open-box, needs))
-    (λ c κs. search (open-box, needs))
-    (λ c κs. search needs) (λ c. search needs) (λ c. search needs) (λ c. search needs)
+    (λ c κs. search needs)
+    (λ c κs. (search (open-size, needs), search (open-recorded, needs)))
+    (λ c. search needs) (λ c. search needs) (λ c. search needs)
     (λ c. search (report-told, needs)))

@@ -1,6 +1,6 @@
 -- Where it is let in, the law of a start.
 use Rattle.c_entering.specs.EngineCalls.{startCall}
-use Rattle.c_entering.proofs.Entries.{turned-away, open-box, open-least, open-second}
+use Rattle.c_entering.proofs.Entries.{turned-away, open-size, open-recorded, open-least, open-second}
 use Rattle.c_entering.proofs.Names.{names-told}
 use Rattle.c_entering.proofs.Crossed.{start-told}
 use borrow.Author.Needs.{needs}
@@ -22,10 +22,11 @@ pub start-spec : {M : Type 1} → statement M
 start-spec =
     tie.close
     (tie.spec
-    (λ c κs. search needs) (λ c. search needs) (λ c. search needs)
+    (λ c κs. search needs)
     returns
-    (λ c κs. search (open-box, open-least, needs))
-    (λ c κs. search (open-box, needs))
+    (λ c κs. search (open-size, open-recorded, open-least, needs))
+    (λ c κs. search needs)
+    (λ c κs. search (open-size, open-recorded, needs))
     tell-started-requires
     (λ c. search needs) (λ c. search needs) (λ c. search needs)
     returns-2)

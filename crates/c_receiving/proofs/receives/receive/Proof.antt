@@ -1,6 +1,6 @@
 -- Where it is let in, the law of a call of what stands in words.
 use Rattle.c_receiving.specs.ReceivingCalls.{receiveCall}
-use Rattle.c_entering.proofs.Entries.{turned-away, open-box, open-first, open-second}
+use Rattle.c_entering.proofs.Entries.{turned-away, open-box, open-size, open-recorded, open-first, open-second}
 use Rattle.c_entering.proofs.Crossed.{told-in-words}
 use Rattle.c_receiving.proofs.Bounds.{fate-told}
 use borrow.Author.Needs.{needs}
@@ -11,19 +11,12 @@ returns : tie.Need-returns
 unfolding receiveCall
 returns c = search (turned-away, needs)
 
-put-both-requires : tie.Need-put-both-requires
-put-both-requires c κs =
-    let entered = c .before .before .before .before .before .before .before .before in
-    search (open-box, entered .if1 .left, entered .before .enter-frame .ensures)
-
-tell-received-requires : tie.Need-tell-received-requires
-tell-received-requires c κs =
-    let entered =
-    c .before .before .before .before .before .before .before .before .before .before .before .before .before .before in
-    record {
-      room = search (open-second, entered .if1 .left, entered .before .enter-frame .ensures);
-      fits = search (fate-told, needs);
-    }
+leave-received-requires : tie.Need-leave-received-requires
+leave-received-requires c κs = (
+  search (open-size, needs),
+  search (open-recorded, needs),
+  record { room = search (open-second, needs); fits = search (fate-told, needs) },
+)
 
 returns-2 : tie.Need-returns-2
 unfolding receiveCall
@@ -35,8 +28,7 @@ receive-spec =
     (tie.spec
     (λ c κs. search needs) (λ c. search needs) (λ c. search needs)
     returns
-    (λ c κs. search (open-box, open-first, needs))
-    put-both-requires
-    tell-received-requires
+    (λ c κs. (search (open-box, needs), search (open-first, needs)))
+    leave-received-requires
     (λ c. search needs) (λ c. search needs) (λ c. search needs) (λ c. search needs)
     returns-2)

@@ -1,5 +1,5 @@
 -- Where it is let in, the law of a cancel.
-use Rattle.c_entering.proofs.Entries.{turned-away, open-state, open-recorded, open-box}
+use Rattle.c_entering.proofs.Entries.{turned-away, open-state, open-size, open-recorded}
 use Rattle.c_requesting.specs.RequestingCalls.{cancelCall}
 use Rattle.c_requesting.proofs.RequestingCalls.{cancel-made}
 use borrow.Author.Needs.{needs}
@@ -18,7 +18,7 @@ cancel-spec =
     returns
     (λ c κs. search (open-state, needs))
     (λ c κs. search (open-recorded, needs))
-    (λ c κs. search needs)
-    (λ c κs. search (open-box, needs))
-    (λ c κs. search needs) (λ c. search needs) (λ c. search needs)
+    (λ c κs. search needs) (λ c κs. search needs)
+    (λ c κs. (search (open-size, needs), search (open-recorded, needs)))
+    (λ c. search needs) (λ c. search needs)
     (λ c. search (cancel-made, needs)))
