@@ -1,2 +1,4 @@
 pub mod Answers
+pub mod Back
 pub mod Needs
+pub mod Promises

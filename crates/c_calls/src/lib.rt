@@ -9,12 +9,10 @@ use c_requesting::requests;
 ghost use mathlib.Core.Path.{_≡_};
 ghost use mathlib.Core.List.{[]};
 ghost use Rattle.c_entering.specs.Entering.{returned, lent};
-ghost use Rattle.c_entering.specs.EngineCalls.{neverStartedCall, startCall, clearCall, statusCall};
-ghost use Rattle.c_receiving.specs.ReceivingCalls.{receiveCall, readFifoCall, acknowledgeFifoCall};
-ghost use Rattle.c_receiving.specs.ReceivingCalls.{readBufferCall, releaseBufferCall};
-ghost use Rattle.c_requesting.specs.RequestingCalls.{requestDedicatedCall, requestSharedCall, cancelCall};
-ghost use Rattle.c_requesting.specs.EventCalls.{readEventCall, acknowledgeEventCall};
-ghost use Rattle.c_choosing.specs.ChoosingCalls.{askChoiceCall, reportSentCall};
+ghost use Rattle.c_entering.specs.EngineCalls.{neverStartedCall};
+ghost use Rattle.c_calls.specs.Exported.{exported, start, receive, readFifo, acknowledgeFifo, readBuffer};
+ghost use Rattle.c_calls.specs.Exported.{releaseBuffer, requestDedicated, requestShared, cancel, askChoice};
+ghost use Rattle.c_calls.specs.Exported.{reportSent, readEvent, acknowledgeEvent, clearFlags, reportStatus};
 
 // A state for which every call but a start answers 20.
 #[no_mangle]
@@ -36,8 +34,9 @@ pub extern "C" fn cuongphemi_start(
 ) -> u32
     ensures { λ n. ⌜ returned n
         (lent (now (state .exit)) (now (recorded .exit)) (now (mem .entry)) (now (answer .exit)) [])
-        ≡ startCall (lent (now (state .entry)) (now (recorded .entry)) (now (mem .entry)) (now (answer .entry)) [])
-        (now (registers .entry)) ⌝ }
+        ≡ exported
+        (lent (now (state .entry)) (now (recorded .entry)) (now (mem .entry)) (now (answer .entry)) [])
+        (start (now (registers .entry))) ⌝ }
 {
     engine_calls::start(state, recorded, mem, registers, answer)
 }
@@ -55,8 +54,9 @@ pub extern "C" fn cuongphemi_receive(
 ) -> u32
     ensures { λ n. ⌜ returned n
         (lent (now (state .exit)) (now (recorded .exit)) (now (mem .exit)) (now (answer .exit)) [])
-        ≡ receiveCall (lent (now (state .entry)) (now (recorded .entry)) (now (mem .entry)) (now (answer .entry)) [])
-        (now (frame .entry)) (now (bytes .entry)) time ⌝ }
+        ≡ exported
+        (lent (now (state .entry)) (now (recorded .entry)) (now (mem .entry)) (now (answer .entry)) [])
+        (receive (now (frame .entry)) (now (bytes .entry)) time) ⌝ }
 {
     receives::receive(state, recorded, mem, frame, bytes, time, answer)
 }
@@ -74,9 +74,9 @@ pub extern "C" fn cuongphemi_read_fifo(
 ) -> u32
     ensures { λ n. ⌜ returned n
         (lent (now (state .entry)) (now (recorded .entry)) (now (mem .entry)) (now (answer .exit)) (now (out .exit)))
-        ≡ readFifoCall
+        ≡ exported
         (lent (now (state .entry)) (now (recorded .entry)) (now (mem .entry)) (now (answer .entry)) (now (out .entry)))
-        fifo place ⌝ }
+        (readFifo fifo place) ⌝ }
 {
     reads::read_fifo(state, recorded, mem, fifo, place, out, answer)
 }
@@ -91,8 +91,9 @@ pub extern "C" fn cuongphemi_acknowledge_fifo(
     place: u32,
 ) -> u32
     ensures { λ n. ⌜ returned n (lent (now (state .exit)) (now (recorded .entry)) (now (mem .entry)) [] [])
-        ≡ acknowledgeFifoCall (lent (now (state .entry)) (now (recorded .entry)) (now (mem .entry)) [] [])
-        fifo place ⌝ }
+        ≡ exported
+        (lent (now (state .entry)) (now (recorded .entry)) (now (mem .entry)) [] [])
+        (acknowledgeFifo fifo place) ⌝ }
 {
     releases::acknowledge_fifo(state, recorded, mem, fifo, place)
 }
@@ -109,9 +110,9 @@ pub extern "C" fn cuongphemi_read_buffer(
 ) -> u32
     ensures { λ n. ⌜ returned n
         (lent (now (state .entry)) (now (recorded .entry)) (now (mem .entry)) (now (answer .exit)) (now (out .exit)))
-        ≡ readBufferCall
+        ≡ exported
         (lent (now (state .entry)) (now (recorded .entry)) (now (mem .entry)) (now (answer .entry)) (now (out .entry)))
-        buffer ⌝ }
+        (readBuffer buffer) ⌝ }
 {
     reads::read_buffer(state, recorded, mem, buffer, out, answer)
 }
@@ -125,7 +126,9 @@ pub extern "C" fn cuongphemi_release_buffer(
     buffer: u32,
 ) -> u32
     ensures { λ n. ⌜ returned n (lent (now (state .exit)) (now (recorded .entry)) (now (mem .entry)) [] [])
-        ≡ releaseBufferCall (lent (now (state .entry)) (now (recorded .entry)) (now (mem .entry)) [] []) buffer ⌝ }
+        ≡ exported
+        (lent (now (state .entry)) (now (recorded .entry)) (now (mem .entry)) [] [])
+        (releaseBuffer buffer) ⌝ }
 {
     releases::release_buffer(state, recorded, mem, buffer)
 }
@@ -145,9 +148,9 @@ pub extern "C" fn cuongphemi_request_dedicated(
 ) -> u32
     ensures { λ n. ⌜ returned n
         (lent (now (state .exit)) (now (recorded .entry)) (now (mem .exit)) (now (answer .exit)) [])
-        ≡ requestDedicatedCall
+        ≡ exported
         (lent (now (state .entry)) (now (recorded .entry)) (now (mem .entry)) (now (answer .entry)) [])
-        buffer (now (frame .entry)) (now (bytes .entry)) marker wish ⌝ }
+        (requestDedicated buffer (now (frame .entry)) (now (bytes .entry)) marker wish) ⌝ }
 {
     requests::request_dedicated(
         state,
@@ -176,9 +179,9 @@ pub extern "C" fn cuongphemi_request_shared(
 ) -> u32
     ensures { λ n. ⌜ returned n
         (lent (now (state .exit)) (now (recorded .entry)) (now (mem .exit)) (now (answer .exit)) [])
-        ≡ requestSharedCall
+        ≡ exported
         (lent (now (state .entry)) (now (recorded .entry)) (now (mem .entry)) (now (answer .entry)) [])
-        (now (frame .entry)) (now (bytes .entry)) marker wish ⌝ }
+        (requestShared (now (frame .entry)) (now (bytes .entry)) marker wish) ⌝ }
 {
     requests::request_shared(state, recorded, mem, frame, bytes, marker, wish, answer)
 }
@@ -192,7 +195,9 @@ pub extern "C" fn cuongphemi_cancel(
     buffer: u32,
 ) -> u32
     ensures { λ n. ⌜ returned n (lent (now (state .exit)) (now (recorded .exit)) (now (mem .entry)) [] [])
-        ≡ cancelCall (lent (now (state .entry)) (now (recorded .entry)) (now (mem .entry)) [] []) buffer ⌝ }
+        ≡ exported
+        (lent (now (state .entry)) (now (recorded .entry)) (now (mem .entry)) [] [])
+        (cancel buffer) ⌝ }
 {
     cancels::cancel(state, recorded, mem, buffer)
 }
@@ -209,9 +214,9 @@ pub extern "C" fn cuongphemi_ask_choice(
 ) -> u32
     ensures { λ n. ⌜ returned n
         (lent (now (state .entry)) (now (recorded .entry)) (now (mem .entry)) (now (answer .exit)) (now (out .exit)))
-        ≡ askChoiceCall
+        ≡ exported
         (lent (now (state .entry)) (now (recorded .entry)) (now (mem .entry)) (now (answer .entry)) (now (out .entry)))
-        passive ⌝ }
+        (askChoice passive) ⌝ }
 {
     c_choosing::ask_choice(state, recorded, mem, passive, out, answer)
 }
@@ -227,8 +232,9 @@ pub extern "C" fn cuongphemi_report_sent(
     time: u16,
 ) -> u32
     ensures { λ n. ⌜ returned n (lent (now (state .exit)) (now (recorded .exit)) (now (mem .exit)) [] [])
-        ≡ reportSentCall (lent (now (state .entry)) (now (recorded .entry)) (now (mem .entry)) [] [])
-        buffer passive time ⌝ }
+        ≡ exported
+        (lent (now (state .entry)) (now (recorded .entry)) (now (mem .entry)) [] [])
+        (reportSent buffer passive time) ⌝ }
 {
     c_choosing::report_sent(state, recorded, mem, buffer, passive, time)
 }
@@ -244,8 +250,9 @@ pub extern "C" fn cuongphemi_read_event(
 ) -> u32
     ensures { λ n. ⌜ returned n
         (lent (now (state .entry)) (now (recorded .entry)) (now (mem .entry)) (now (answer .exit)) [])
-        ≡ readEventCall (lent (now (state .entry)) (now (recorded .entry)) (now (mem .entry)) (now (answer .entry)) [])
-        place ⌝ }
+        ≡ exported
+        (lent (now (state .entry)) (now (recorded .entry)) (now (mem .entry)) (now (answer .entry)) [])
+        (readEvent place) ⌝ }
 {
     event_calls::read_event(state, recorded, mem, place, answer)
 }
@@ -259,7 +266,9 @@ pub extern "C" fn cuongphemi_acknowledge_event(
     place: u32,
 ) -> u32
     ensures { λ n. ⌜ returned n (lent (now (state .exit)) (now (recorded .entry)) (now (mem .entry)) [] [])
-        ≡ acknowledgeEventCall (lent (now (state .entry)) (now (recorded .entry)) (now (mem .entry)) [] []) place ⌝ }
+        ≡ exported
+        (lent (now (state .entry)) (now (recorded .entry)) (now (mem .entry)) [] [])
+        (acknowledgeEvent place) ⌝ }
 {
     event_calls::acknowledge_event(state, recorded, mem, place)
 }
@@ -273,12 +282,14 @@ pub extern "C" fn cuongphemi_clear_flags(
     mask: u32,
 ) -> u32
     ensures { λ n. ⌜ returned n (lent (now (state .entry)) (now (recorded .exit)) (now (mem .entry)) [] [])
-        ≡ clearCall (lent (now (state .entry)) (now (recorded .entry)) (now (mem .entry)) [] []) mask ⌝ }
+        ≡ exported
+        (lent (now (state .entry)) (now (recorded .entry)) (now (mem .entry)) [] [])
+        (clearFlags mask) ⌝ }
 {
     engine_calls::clear_flags(state, recorded, mem, mask)
 }
 
-// Call 15, recorded.
+// Call 15, report status.
 #[no_mangle]
 pub extern "C" fn cuongphemi_status(
     state: &[u32],
@@ -288,7 +299,9 @@ pub extern "C" fn cuongphemi_status(
 ) -> u32
     ensures { λ n. ⌜ returned n
         (lent (now (state .entry)) (now (recorded .entry)) (now (mem .entry)) (now (answer .exit)) [])
-        ≡ statusCall (lent (now (state .entry)) (now (recorded .entry)) (now (mem .entry)) (now (answer .entry)) []) ⌝ }
+        ≡ exported
+        (lent (now (state .entry)) (now (recorded .entry)) (now (mem .entry)) (now (answer .entry)) [])
+        reportStatus ⌝ }
 {
     engine_calls::status(state, recorded, mem, answer)
 }
