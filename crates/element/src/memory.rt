@@ -7,10 +7,11 @@ use crate::pack;
 use crate::unpack;
 use frame::Frame;
 use words::WordAddress;
+use words::bytes::smaller;
 ghost use mathlib.Core.Path.{_≡_};
-ghost use Prim.Native.Nat.{_+_, _≤_, _<_, min};
+ghost use Prim.Native.Nat.{_+_, _≤_, _<_};
 ghost use lib.ListN.{length};
-ghost use Rattle.words.specs.Runs.{splice};
+ghost use Rattle.words.specs.Runs.{run, splice};
 ghost use Rattle.element.specs.Fitting.{InFields};
 ghost use Rattle.element.specs.Needs.{RxInFields, HasElement};
 ghost use Rattle.element.specs.Elements.{element, rxElement, txElement, eventElement};
@@ -69,12 +70,6 @@ pub fn store_event(mem: &mut [u32], at: WordAddress, marker: u8, f: Frame, time:
     mem[start + 1] = pack::event_second_word(marker, f, time);
 }
 
-fn smaller(a: usize, b: usize) -> usize
-    ensures { λ r. ⌜ r ≡ min a b ⌝ }
-{
-    if a < b { a } else { b }
-}
-
 // Reads a received frame: as many bytes as the frame has and the element holds go to the front of out.
 pub fn read_rx(mem: &[u32], at: WordAddress, n: usize, out: &mut [u8]) -> RxRead
     requires { ⌜ HasElement (now mem) (at .0) n × (length (now out) ≡ 64) ⌝ }
@@ -124,14 +119,25 @@ fn sent_byte(mem: &[u32], at: WordAddress, n: usize, i: usize) -> u8
     0xCC
 }
 
+// Writes so many bytes as sent, from byte first on, to their places in out.
+fn write_rest(mem: &[u32], at: WordAddress, n: usize, first: usize, count: usize, out: &mut [u8])
+    requires { ⌜ HasElement (now mem) (at .0) n × (first + count ≤ length (now out)) ⌝ }
+    ensures { λ _. ⌜ now (out .exit)
+        ≡ splice (now (out .entry)) first (run (λ i. sentByte (now (mem .entry)) (at .0) n (first + i)) 0 count) ⌝ }
+{
+    let mut k = 0;
+    while k < count {
+        out[first + k] = sent_byte(mem, at, n, first + k);
+        k += 1;
+    }
+}
+
 // Writes the first bytes as sent to the front of out.
 pub fn write_sent(mem: &[u32], at: WordAddress, n: usize, count: usize, out: &mut [u8])
     requires { ⌜ HasElement (now mem) (at .0) n × (count ≤ length (now out)) ⌝ }
     ensures { λ _. ⌜ now (out .exit) ≡ splice (now (out .entry)) 0 (sentFrom (now (mem .entry)) (at .0) n count) ⌝ }
 {
-    let mut k = 0;
-    while k < count {
-        out[k] = sent_byte(mem, at, n, k);
-        k += 1;
-    }
+    let held = smaller(count, 4 * n);
+    words::bytes::load(mem, WordAddress(at.0 + 2), held, out);
+    write_rest(mem, at, n, held, count - held, out)
 }

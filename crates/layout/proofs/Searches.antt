@@ -1,6 +1,6 @@
 -- The verdict's searches, one turn at a time: the first section past the memory, the first pair that shares a word.
 -- Assumes nothing.
-use Prim.Native.Nat.{ℕ, _+_, _-_, _≤_, _<_}
+use Prim.Native.Nat.{ℕ, _+_, _-_, _≤_, _<_, min, max}
 use mathlib.Core.Path.{_≡_, refl, sym, ap, _∙_}
 use mathlib.Core.Bool.{Bool, true, false}
 use mathlib.Core.List.{List}
@@ -17,6 +17,30 @@ use Rattle.layout.specs.Verdict.{meaning, end, past, shares, partner, ha
 use Rattle.layout.specs.declared.sections.Section.{Section}
 use Rattle.layout.specs.declared.check.Verdict.{Verdict}
 use Rattle.layout.specs.declared.check.Verdict.the-variants.{Accepted, Overlap}
+
+-- two sections share no word where one is empty or ends before the other starts, and else they do
+module _ (a b : Section) where
+  apart : min (end a) (end b) ≤ max (a .start .0) (b .start .0) → false ≡ shares a b
+  apart h = sym (le-ltb _ _ h)
+
+  pub first-empty : a .words ≡ 0 → false ≡ shares a b
+  first-empty e = apart (omega arith)
+
+  pub second-empty : b .words ≡ 0 → false ≡ shares a b
+  second-empty e = apart (omega arith)
+
+  pub first-ends : (n : ℕ) → n ≡ end a → n ≤ b .start .0 → false ≡ shares a b
+  first-ends n e h = apart (omega arith)
+
+  pub second-ends : (n : ℕ) → n ≡ end b → n ≤ a .start .0 → false ≡ shares a b
+  second-ends n e h = apart (omega arith)
+
+  pub overlap : (m n : ℕ) → m ≡ end a → n ≡ end b → (a .words ≡ 0 → ⊥) → b .start .0 < m → a .start .0 < n
+      → (b .words ≡ 0 → ⊥)
+      → true ≡ shares a b
+  overlap m n d e p g h q =
+      let both : max (a .start .0) (b .start .0) < min (end a) (end b) = omega arith in
+      sym (lt-ltb _ _ both)
 
 -- section j shares a word with section a
 abbrev pub sharesWith : List Section → Section → ℕ → Bool

@@ -7,7 +7,6 @@ use registers::Registers;
 use registers::kinds::Txbc;
 ghost use mathlib.Core.Path.{_≡_};
 ghost use mathlib.Core.Bool.{false};
-ghost use Prim.Native.Nat.{min, max};
 ghost use lib.ListN.{getD};
 ghost use Rattle.words.specs.Least.{leastFrom};
 ghost use Rattle.words.specs.Rules.{isAllowed};
@@ -98,23 +97,23 @@ fn end_of(s: Section) -> u64
     s.start.0 as u64 + s.words as u64
 }
 
-fn higher(a: u64, b: u64) -> u64
-    ensures { λ r. ⌜ r ≡ max a b ⌝ }
-{
-    if a < b { b } else { a }
-}
-
-fn lower(a: u64, b: u64) -> u64
-    ensures { λ r. ⌜ r ≡ min a b ⌝ }
-{
-    if a < b { a } else { b }
-}
-
-// Whether two sections have a word in common.
+// Whether two sections have a word in common: none is empty, and none ends before the other starts.
 fn share(a: Section, b: Section) -> bool
     ensures { λ r. ⌜ r ≡ shares a b ⌝ }
 {
-    higher(a.start.0 as u64, b.start.0 as u64) < lower(end_of(a), end_of(b))
+    if a.words == 0 {
+        return false;
+    }
+    if end_of(a) <= b.start.0 as u64 {
+        return false;
+    }
+    if end_of(b) <= a.start.0 as u64 {
+        return false;
+    }
+    if b.words == 0 {
+        return false;
+    }
+    true
 }
 
 // The first section that ends past a memory of so many words, or 7.

@@ -9,4 +9,5 @@ pub mod Unnamed
 pub mod Runs
 pub mod Parts
 pub mod Lanes
+pub mod Moves
 pub mod Ranges

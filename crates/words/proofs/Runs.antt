@@ -2,7 +2,7 @@
 -- Assumes nothing.
 use mathlib.Core.Path.{_≡_, refl, sym, ap, _∙_}
 use mathlib.Core.List.{List, [], _∷_, _++_, append-assoc, append-nil}
-use Prim.Native.Nat.{ℕ, zero, suc, _+_, _-_, _<_, _≤_}
+use Prim.Native.Nat.{ℕ, zero, suc, _+_, _-_, _<_, _≤_, min}
 use native.Mathlib.Nat.{add-zero, zero-add, not-suc-le-zero, le-of-suc-le-suc}
 use native.Mathlib.Numerals.{add-one}
 use native.Mathlib.Omega.{arith}
@@ -129,8 +129,71 @@ module _ (f : ℕ → ℕ) (l : List ℕ) (at : ℕ) where
     pub run-done : k ≤ n → n ≤ k → m ≡ splice l at (run f 0 n)
     run-done h r = so ∙ ap (λ (x : ℕ). splice l at (run f 0 x)) (omega arith)
 
+-- ---- a run stored in two parts, the second right behind the first
+
+-- what is put right behind a replaced part makes it longer
+splice-behind : (l : List ℕ) (at : ℕ) (a b : List ℕ) → at + length a + length b ≤ length l
+    → splice (splice l at a) (at + length a) b ≡ splice l at (a ++ b)
+splice-behind l at a [] h = sym (splice-none (splice l at a) (at + length a)) ∙ ap (splice l at) (sym (append-nil a))
+splice-behind l at a (v ∷ b) h =
+    let e : at + length a + 1 ≡ at + length (a ++ (v ∷ [])) = omega (arith, length-append a (v ∷ [])) in
+    sym
+    (splice-cons (splice l at a) (at + length a) v b (omega (arith, splice-length l at a (omega arith))))
+    ∙ ap (λ (x : List ℕ). splice x (at + length a + 1) b) (splice-snoc l at a v (omega arith))
+    ∙ ap (λ (k : ℕ). splice (splice l at (a ++ (v ∷ []))) k b) e
+    ∙ splice-behind l at (a ++ (v ∷ [])) b (omega arith)
+    ∙ ap (splice l at) (append-assoc a (v ∷ []) b)
+
+module _ (f : ℕ → ℕ) where
+  run-join : (k n : ℕ) → run f 0 k ++ run f k n ≡ run f 0 (k + n)
+  unfolding run
+  run-join k zero = append-nil (run f 0 k) ∙ ap (run f 0) (sym (add-zero k))
+  run-join k (suc n) =
+      let more : suc (k + n) ≡ k + suc n = omega arith in
+      ap (λ (r : List ℕ). run f 0 k ++ r) (run-more f k n)
+      ∙ sym (append-assoc (run f 0 k) (run f k n) (f (k + n) ∷ []))
+      ∙ ap (λ (r : List ℕ). r ++ (f (k + n) ∷ [])) (run-join k n)
+      ∙ ap (λ (x : ℕ). run f 0 (k + n) ++ (f x ∷ [])) (sym (zero-add (k + n)))
+      ∙ sym (run-more f 0 (k + n))
+      ∙ ap (run f 0) more
+
+  module _ (l m last : List ℕ) (at k : ℕ) (so : m ≡ splice l at (run f 0 k)) where
+    pub run-behind : (g : ℕ → ℕ) (n : ℕ) → last ≡ splice m (at + k) (run g 0 n) → at + k + n ≤ length l
+        → ((i : ℕ) → i < n → g i ≡ f (k + i))
+        → last ≡ splice l at (run f 0 (k + n))
+    run-behind g n next h same =
+        next
+        ∙ ap (λ (x : List ℕ). splice x (at + k) (run g 0 n)) so
+        ∙ ap (splice (splice l at (run f 0 k)) (at + k))
+        (run-alike g f 0 k n (λ i b. ap g (zero-add i) ∙ same i b))
+        ∙ ap (λ (x : ℕ). splice (splice l at (run f 0 k)) (at + x) (run f k n)) (sym (length-run f 0 k))
+        ∙ splice-behind l at (run f 0 k) (run f k n) (omega (arith, length-run f 0 k, length-run f k n))
+        ∙ ap (splice l at) (run-join k n)
+
+    -- the first of them are as many as both numbers allow
+    pub run-rest : (n q : ℕ) → k ≡ min n q → last ≡ splice m (at + k) (run (λ i. f (k + i)) 0 (n - k))
+        → at + n ≤ length l
+        → last ≡ splice l at (run f 0 n)
+    run-rest n q e next h =
+        run-behind (λ i. f (k + i)) (n - k) next (omega arith) (λ i c. refl)
+        ∙ ap (λ (x : ℕ). splice l at (run f 0 x)) (omega arith)
+
 -- the same at the front of a list
-pub front-turn : (f : ℕ → ℕ) (l m : List ℕ) (k n v : ℕ) → m ≡ splice l 0 (run f 0 k) → k < n → n ≤ length l → v ≡ f k
-    → set m k v ≡ splice l 0 (run f 0 (k + 1))
-front-turn f l m k n v so h r e =
-    ap (λ (x : ℕ). set m x v) (sym (zero-add k)) ∙ run-turn f l 0 m k n so v h (omega arith) e
+pub front-rest : (f : ℕ → ℕ) (l m last : List ℕ) (k n q : ℕ) → m ≡ splice l 0 (run f 0 k) → k ≡ min n q
+    → last ≡ splice m k (run (λ i. f (k + i)) 0 (n - k)) → n ≤ length l
+    → last ≡ splice l 0 (run f 0 n)
+front-rest f l m last k n q so e next h =
+    run-rest f l m last 0 k so n q e
+    (next ∙ ap (λ (x : ℕ). splice m x (run (λ i. f (k + i)) 0 (n - k))) (sym (zero-add k))) (omega arith)
+
+-- four stores of neighbours
+pub four-stored : (f : ℕ → ℕ) (l : List ℕ) (at a b c d : ℕ) → at + 4 ≤ length l → a ≡ f 0 → b ≡ f 1 → c ≡ f 2 → d ≡ f 3
+    → set (set (set (set l at a) (at + 1) b) (at + 2) c) (at + 3) d ≡ splice l at (run f 0 4)
+unfolding run
+four-stored f l at a b c d h p q r s =
+    ap (λ (x : List ℕ). set (set (set x (at + 1) b) (at + 2) c) (at + 3) d)
+    (splice-none (set l at a) (at + 1) ∙ splice-cons l at a [] (omega arith))
+    ∙ ap (λ (x : List ℕ). set (set x (at + 2) c) (at + 3) d) (splice-snoc l at (a ∷ []) b (omega arith))
+    ∙ ap (λ (x : List ℕ). set x (at + 3) d) (splice-snoc l at (a ∷ b ∷ []) c (omega arith))
+    ∙ splice-snoc l at (a ∷ b ∷ c ∷ []) d (omega arith)
+    ∙ cc
