@@ -1,4 +1,5 @@
--- One walk for each function that steps the record in place: it copies the record out, calls a step, writes it back.
+-- One walk for each function that steps the record in place by a word: it copies the record out, calls a step, and
+-- writes it back.
 -- The functions differ in the step alone, so the walk is over the step's name and its definition.
 -- Assumes nothing.
 use mathlib.Core.Path.{_≡_, refl, subst}
