@@ -1,2 +1,3 @@
 pub mod Raised
 pub mod Stepping
+pub mod Walking

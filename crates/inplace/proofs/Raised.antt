@@ -2,12 +2,14 @@
 -- Assumes nothing.
 use mathlib.Core.Path.{refl}
 use native.Mathlib.Omega.{arith}
-use Rattle.words.proofs.Bits.{bit-lt, bit-or, cleared-bit}
+use Rattle.words.proofs.Bits.{bit-lt, bit-of-zero, bit-or, cleared-bit}
 use Rattle.engine.specs.Flags.{cleared, withPriority}
 use Rattle.engine.proofs.Sounds.{sound-of, flags-of, fit-of}
 use Rattle.inplace.specs.Raising.{raisedMask}
+use Rattle.inplace.specs.Taking.{taken, withoutFlags}
 use Rattle.inplace.specs.Promises.{RaiseSetsTheMask, RaiseKeepsTheRest, ClearClearsTheMask, ClearKeepsTheRest}
-use Rattle.inplace.specs.Promises.{PutReplacesThePriority, RaiseKeepsFit, PutKeepsFit}
+use Rattle.inplace.specs.Promises.{PutReplacesThePriority, TakeLosesNothing}
+use Rattle.inplace.specs.Promises.{RaiseKeepsFit, PutKeepsFit, TakeKeepsFit}
 
 pub raise-sets-the-mask : RaiseSetsTheMask
 unfolding raisedMask
@@ -30,6 +32,10 @@ pub put-replaces-the-priority : PutReplacesThePriority
 unfolding withPriority
 put-replaces-the-priority r word = (refl, refl)
 
+pub take-loses-nothing : TakeLosesNothing
+unfolding raisedMask
+take-loses-nothing r from = (λ n. bit-or (r .flags) (from .flags) n, bit-of-zero, refl, refl)
+
 pub raise-keeps-fit : RaiseKeepsFit
 unfolding raisedMask
 raise-keeps-fit s r words mask named e =
@@ -39,3 +45,9 @@ raise-keeps-fit s r words mask named e =
 pub put-keeps-fit : PutKeepsFit
 unfolding withPriority
 put-keeps-fit s r words word e = fit-of s (withPriority r word) words (sound-of s r words e) (flags-of s r words e)
+
+pub take-keeps-fit : TakeKeepsFit
+take-keeps-fit s r from words e = (
+  fit-of s (withoutFlags r) words (sound-of s r words e) (λ k _. bit-of-zero k),
+  λ named. raise-keeps-fit s r words (taken from) named e,
+)

@@ -1,5 +1,5 @@
 -- What is promised of the steps on the record that interrupt code takes in place: statements only.
-use Prim.Native.Nat.{ℕ, _^_, _<_}
+use Prim.Native.Nat.{ℕ, _^_, _<_, max}
 use mathlib.Core.Path.{_≡_}
 use mathlib.Core.Bool.{false}
 use Rattle.words.specs.Bits.{bit}
@@ -9,6 +9,7 @@ use Rattle.engine.specs.Flags.{cleared, withPriority}
 use Rattle.engine.specs.declared.state.State.{State}
 use Rattle.engine.specs.declared.state.Record.{Record}
 use Rattle.inplace.specs.Raising.{raisedMask}
+use Rattle.inplace.specs.Taking.{taken, withoutFlags}
 
 -- raise: each flag of the mask is set; every other, and the priority, is as it was
 abbrev pub RaiseSetsTheMask : Type 0
@@ -36,6 +37,16 @@ abbrev pub PutReplacesThePriority : Type 0
 PutReplacesThePriority =
     (r : Record) (word : ℕ) → (withPriority r word .priority ≡ word) × (withPriority r word .flags ≡ r .flags)
 
+-- take: where what is taken from one record is raised in another, each flag is up there exactly where it was up in
+-- either; none is up where it was taken, and both priorities are as they were
+abbrev pub TakeLosesNothing : Type 0
+TakeLosesNothing =
+    (r from : Record)
+    → ((n : ℕ) → bit (raisedMask r (taken from) .flags) n ≡ max (bit (r .flags) n) (bit (from .flags) n))
+    × ((n : ℕ) → bit (withoutFlags from .flags) n ≡ 0)
+    × (raisedMask r (taken from) .priority ≡ r .priority)
+    × (withoutFlags from .priority ≡ from .priority)
+
 -- a fit state stays fit where the flags raised are named ones, and where any priority is put
 abbrev pub RaiseKeepsFit : Type 0
 RaiseKeepsFit =
@@ -45,3 +56,10 @@ RaiseKeepsFit =
 abbrev pub PutKeepsFit : Type 0
 PutKeepsFit =
     (s : State) (r : Record) (words word : ℕ) → unfit s r words ≡ false → unfit s (withPriority r word) words ≡ false
+
+-- and it stays fit where its own flags are taken, and where flags taken elsewhere, named ones, are raised in its record
+abbrev pub TakeKeepsFit : Type 0
+TakeKeepsFit =
+    (s : State) (r from : Record) (words : ℕ) → unfit s r words ≡ false
+    → (unfit s (withoutFlags r) words ≡ false)
+    × (RestZero flagFields (from .flags) → unfit s (raisedMask r (taken from)) words ≡ false)

@@ -6,6 +6,7 @@ use words::bits32;
 ghost use mathlib.Core.Path.{_≡_};
 ghost use Rattle.engine.specs.Flags.{cleared, withPriority};
 ghost use Rattle.inplace.specs.Raising.{raisedMask};
+ghost use Rattle.inplace.specs.Taking.{taken, withoutFlags};
 
 // The flags of a mask are set; the priority stays.
 pub fn raise_mask(r: Record, mask: u32) -> Record
@@ -38,4 +39,31 @@ pub extern "C" fn cuongphemi_priority_put(recorded: &mut Record, word: u32)
     ensures { λ _. ⌜ now (recorded .exit) ≡ withPriority (now (recorded .entry)) word ⌝ }
 {
     *recorded = flags::set_priority(*recorded, word);
+}
+
+// The flags that are up.
+pub fn flags_up(r: Record) -> u32
+    ensures { λ n. ⌜ n ≡ taken r ⌝ }
+{
+    r.flags
+}
+
+// No flag is up; the priority stays.
+pub fn without_flags(r: Record) -> Record
+    ensures { λ n. ⌜ n ≡ withoutFlags r ⌝ }
+{
+    let mut n = r;
+    n.flags = 0;
+    n
+}
+
+// Gives back the flags that were up, and clears them in place; the priority stays.
+#[no_mangle]
+pub extern "C" fn cuongphemi_flags_take(recorded: &mut Record) -> u32
+    ensures { λ n. ⌜ (n ≡ taken (now (recorded .entry)))
+        × (now (recorded .exit) ≡ withoutFlags (now (recorded .entry))) ⌝ }
+{
+    let r = *recorded;
+    *recorded = without_flags(r);
+    flags_up(r)
 }
