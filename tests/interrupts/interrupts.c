@@ -110,22 +110,22 @@ static void fail(const char *what)
 }
 
 /* A call that only reads the record. */
-#define CALL(at, call)                                                                                                \
-    do {                                                                                                              \
-        doing = at;                                                                                                   \
-        if ((call) != 0)                                                                                              \
-            fail(#call " is refused");                                                                                \
-        doing = ELSE;                                                                                                 \
+#define CALL(at, call)                                                                                      \
+    do {                                                                                                    \
+        doing = at;                                                                                         \
+        if ((call) != 0)                                                                                    \
+            fail(#call " is refused");                                                                      \
+        doing = ELSE;                                                                                       \
     } while (0)
 
 /* A call that owns it. */
-#define OWNING_CALL(at, call)                                                                                         \
-    do {                                                                                                              \
-        if (way == MASKED)                                                                                            \
-            mask(SIG_BLOCK);                                                                                          \
-        CALL(at, call);                                                                                               \
-        if (way == MASKED)                                                                                            \
-            mask(SIG_UNBLOCK);                                                                                        \
+#define OWNING_CALL(at, call)                                                                               \
+    do {                                                                                                    \
+        if (way == MASKED)                                                                                  \
+            mask(SIG_BLOCK);                                                                                \
+        CALL(at, call);                                                                                     \
+        if (way == MASKED)                                                                                  \
+            mask(SIG_UNBLOCK);                                                                              \
     } while (0)
 
 /* Brings what the interrupt raised into the box's record. It goes on with its other record, so this one is still. */
