@@ -207,7 +207,7 @@ pub fn pack_state(s: &State, w: &mut [u32]) {
     w[26] = s.cancelled;
 }
 
-fn unpack_record(w: &[u32]) -> Record {
+pub fn unpack_record(w: &[u32]) -> Record {
     Record { flags: w[0], priority: w[1] }
 }
 
@@ -217,7 +217,7 @@ pub fn pack_record(record: &Record, w: &mut [u32]) {
 }
 
 #[inline(always)]
-fn unpack_frame(w: &[u32]) -> Result<Frame, u32> {
+pub fn unpack_frame(w: &[u32]) -> Result<Frame, u32> {
     Ok(Frame {
         id: w[0],
         xtd: yes(w[1])?,

@@ -212,6 +212,7 @@ const STORED_IN_BUFFER: &str = "size code of a store in an Rx buffer";
 const REQUESTED: &str = "size code of a request";
 const OVERWRITTEN: &str = "overwritten in FIFO";
 const LOST: &str = "lost to FIFO";
+const READ: &str = "read (0 with a filter's index, 1 ANMF with index 0, 2 ANMF with another index)";
 const DISCARDED: &str = "discarded, reason";
 const CHOSEN: &str = "chosen (0 none, 1 dedicated, 2 shared FIFO, 3 queue)";
 const EQUAL_RANKS: &str = "equal ranks at the top";
@@ -233,6 +234,7 @@ impl Tally {
         }
         expected.extend([(OVERWRITTEN, 0), (OVERWRITTEN, 1), (LOST, 0), (LOST, 1)]);
         expected.extend((0..7).map(|reason| (DISCARDED, reason)));
+        expected.extend((0..3).map(|kind| (READ, kind)));
         expected.extend((0..4).map(|kind| (CHOSEN, kind)));
         expected.extend((0..32).filter(|flag| FLAGS >> flag & 1 == 1).map(|flag| (RAISED, flag)));
         expected.extend(SAYS_YES_OR_NO.map(|at| (STARTED_OVER, at as u32)));
@@ -360,6 +362,10 @@ impl Comparison {
             (Receive, 2) => self.tally.note(STORED_IN_BUFFER, r.rx_buffer_size_code()),
             (Receive, 3) => self.tally.note(LOST, answer[1]),
             (Receive, _) => self.tally.note(DISCARDED, answer[1]),
+            (ReadFifo | ReadBuffer, _) => {
+                let [index, anmf] = [answer[8], answer[9]];
+                self.tally.note(READ, if anmf == 0 { 0 } else { 1 + u32::from(index != 0) });
+            }
             (RequestDedicated | RequestShared, _) => self.tally.note(REQUESTED, r.tx_size_code()),
             (AskChoice, NO_BUFFER) => self.tally.note(CHOSEN, 0),
             (AskChoice, buffer) => {
