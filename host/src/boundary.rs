@@ -11,6 +11,9 @@ pub const REGISTER_WORDS: usize = 14;
 pub const FRAME_WORDS: usize = 7;
 pub const ANSWER_WORDS: usize = 16;
 
+/// The words of registers and of a state that say yes or no: FD on and rate switch on.
+pub const SAYS_YES_OR_NO: [usize; 2] = [12, 13];
+
 pub const WRONG_LENGTH: u32 = 100;
 pub const NEITHER_YES_NOR_NO: u32 = 101;
 
@@ -204,7 +207,7 @@ pub fn pack_state(s: &State, w: &mut [u32]) {
     w[26] = s.cancelled;
 }
 
-fn unpack_record(w: &[u32]) -> Record {
+pub fn unpack_record(w: &[u32]) -> Record {
     Record { flags: w[0], priority: w[1] }
 }
 
@@ -214,7 +217,7 @@ pub fn pack_record(record: &Record, w: &mut [u32]) {
 }
 
 #[inline(always)]
-fn unpack_frame(w: &[u32]) -> Result<Frame, u32> {
+pub fn unpack_frame(w: &[u32]) -> Result<Frame, u32> {
     Ok(Frame {
         id: w[0],
         xtd: yes(w[1])?,
@@ -244,14 +247,15 @@ fn pack_received(received: &Received, w: &mut [u32]) {
     w[..4].copy_from_slice(&[kind, what, place, received.index.map_or(0, |index| index + 1)]);
 }
 
-/// The frame, its timestamp, the filter index + 1 or 0 if ANMF, and the bytes written.
+/// The frame, its timestamp, the filter index as it stands, ANMF, and the bytes written.
 fn pack_read(read: &Read, w: &mut [u32]) {
     let h = &read.header;
     let frame = Frame { id: h.id, xtd: h.xtd, rtr: h.rtr, fdf: h.fdf, brs: h.brs, esi: h.esi, dlc: h.dlc };
     pack_frame(&frame, w);
     w[7] = u32::from(h.timestamp);
-    w[8] = if h.anmf { 0 } else { h.index + 1 };
-    w[9] = read.bytes;
+    w[8] = h.index;
+    w[9] = u32::from(h.anmf);
+    w[10] = read.bytes;
 }
 
 /// The buffer, marker, event wish, the frame as sent and the bytes written.
@@ -308,7 +312,8 @@ impl Calls for Model {
     ) -> u32 {
         let mut run = || {
             lengths([own(state, status), registers.len() == REGISTER_WORDS, answer.len() == ANSWER_WORDS])?;
-            let (mut s, mut c) = (unpack_state(state)?, unpack_record(status));
+            // A start takes any old state and record: their words are not looked at.
+            let (mut s, mut c) = (State::never_started(), Record::default());
             match model::start(&mut s, &mut c, unpack_registers(registers)?, memory.len()) {
                 Err(no) => {
                     answer[..2].copy_from_slice(&[no.first, no.second]);

@@ -212,10 +212,14 @@ const STORED_IN_BUFFER: &str = "size code of a store in an Rx buffer";
 const REQUESTED: &str = "size code of a request";
 const OVERWRITTEN: &str = "overwritten in FIFO";
 const LOST: &str = "lost to FIFO";
+const READ: &str = "read (0 with a filter's index, 1 ANMF with index 0, 2 ANMF with another index)";
 const DISCARDED: &str = "discarded, reason";
 const CHOSEN: &str = "chosen (0 none, 1 dedicated, 2 shared FIFO, 3 queue)";
 const EQUAL_RANKS: &str = "equal ranks at the top";
 const RAISED: &str = "raised flag";
+const STARTED_OVER: &str = "started over an old state with neither yes nor no in word";
+const NOT_STARTED_OVER: &str = "start refused over an old state with neither yes nor no in word";
+const INTERRUPTED: &str = "interrupt code (0 raise, 1 clear, 2 take, 3 put)";
 
 impl Tally {
     fn note(&mut self, what: &'static str, number: u32) {
@@ -230,8 +234,12 @@ impl Tally {
         }
         expected.extend([(OVERWRITTEN, 0), (OVERWRITTEN, 1), (LOST, 0), (LOST, 1)]);
         expected.extend((0..7).map(|reason| (DISCARDED, reason)));
+        expected.extend((0..3).map(|kind| (READ, kind)));
         expected.extend((0..4).map(|kind| (CHOSEN, kind)));
         expected.extend((0..32).filter(|flag| FLAGS >> flag & 1 == 1).map(|flag| (RAISED, flag)));
+        expected.extend(SAYS_YES_OR_NO.map(|at| (STARTED_OVER, at as u32)));
+        expected.extend(SAYS_YES_OR_NO.map(|at| (NOT_STARTED_OVER, at as u32)));
+        expected.extend((0..4).map(|step| (INTERRUPTED, step)));
 
         let pairs = NUMBERS.iter().flat_map(|(call, numbers)| numbers.iter().map(|number| (*call, *number)));
         let mut missing: Vec<String> = pairs
@@ -317,6 +325,12 @@ impl Comparison {
             panic!("{}", self.difference(call, number, wanted, &before.1));
         }
         *self.tally.numbers.entry((call, number)).or_default() += 1;
+        if call == Start && number < WRONG_LENGTH {
+            let over = if number == 0 { STARTED_OVER } else { NOT_STARTED_OVER };
+            for at in SAYS_YES_OR_NO.into_iter().filter(|at| before.1[*at] > 1) {
+                self.tally.note(over, at as u32);
+            }
+        }
         if number == 0 {
             self.note_outcome(call, before.0, &before.1);
         }
@@ -348,6 +362,10 @@ impl Comparison {
             (Receive, 2) => self.tally.note(STORED_IN_BUFFER, r.rx_buffer_size_code()),
             (Receive, 3) => self.tally.note(LOST, answer[1]),
             (Receive, _) => self.tally.note(DISCARDED, answer[1]),
+            (ReadFifo | ReadBuffer, _) => {
+                let [index, anmf] = [answer[8], answer[9]];
+                self.tally.note(READ, if anmf == 0 { 0 } else { 1 + u32::from(index != 0) });
+            }
             (RequestDedicated | RequestShared, _) => self.tally.note(REQUESTED, r.tx_size_code()),
             (AskChoice, NO_BUFFER) => self.tally.note(CHOSEN, 0),
             (AskChoice, buffer) => {
@@ -424,6 +442,10 @@ impl Comparison {
         self.model.memory.length = MEMORY_WORDS;
         self.model.answer.length = ANSWER_WORDS;
         put_filters(&mut self.random, &registers, self.model.memory.lent_mut());
+        // A start takes any old state, also one that says neither yes nor no.
+        for at in SAYS_YES_OR_NO {
+            self.model.state.cells[at] = self.random.odd_word();
+        }
         self.scribble();
         self.inputs.set_registers(&registers);
         let number = self.call(Start);
@@ -448,11 +470,43 @@ impl Comparison {
             if self.random.once_in(8) {
                 self.scribble();
             }
+            if self.random.once_in(30) {
+                self.interrupt();
+            }
             let call = if self.random.once_in(400) { Start } else { self.call_by_mood(&MOODS[mood]) };
             self.sensible_inputs(call, &state);
             let number = self.call(call);
             assert_ne!(number, 20, "a started engine never meets 20");
         }
+    }
+
+    /// One step of interrupt code on the record in place. It raises only flags that exist.
+    fn interrupt(&mut self) {
+        let step = self.random.below(4);
+        let word = self.random.word();
+        let status = &mut self.model.status.cells;
+        let mut record = [status[0], status[1]];
+        match step {
+            0 => {
+                Library.flags_raise(&mut record, word & FLAGS);
+                status[0] |= word & FLAGS;
+            }
+            1 => {
+                Library.flags_clear(&mut record, word);
+                status[0] &= !word;
+            }
+            2 => {
+                assert_eq!(Library.flags_take(&mut record), status[0]);
+                status[0] = 0;
+            }
+            _ => {
+                Library.priority_put(&mut record, word);
+                status[1] = word;
+            }
+        }
+        self.tally.note(INTERRUPTED, step);
+        assert_eq!(record, [status[0], status[1]], "interrupt code's step {step}, word {word:#x}");
+        self.share();
     }
 
     fn call_by_mood(&mut self, mood: &[u32; 15]) -> Call {
@@ -605,12 +659,12 @@ impl Comparison {
     fn wild_words(&mut self) {
         let random = &mut self.random;
         if random.once_in(40) {
-            let at = 12 + random.below(2) as usize;
+            let at = SAYS_YES_OR_NO[random.below(2) as usize];
             self.model.state.cells[at] = random.odd_word();
             self.library.state.cells[at] = self.model.state.cells[at];
         }
         if random.once_in(40) {
-            self.inputs.registers.cells[12 + random.below(2) as usize] = random.odd_word();
+            self.inputs.registers.cells[SAYS_YES_OR_NO[random.below(2) as usize]] = random.odd_word();
         }
         if random.once_in(40) {
             self.inputs.frame.cells[1 + random.below(5) as usize] = random.odd_word();

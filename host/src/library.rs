@@ -76,6 +76,7 @@ mod c {
         // A record is two words, flags and priority.
         pub fn cuongphemi_flags_raise(status: *mut [u32; 2], mask: u32);
         pub fn cuongphemi_flags_clear(status: *mut [u32; 2], mask: u32);
+        pub fn cuongphemi_flags_take(status: *mut [u32; 2]) -> u32;
         pub fn cuongphemi_priority_put(status: *mut [u32; 2], word: u32);
     }
 }
@@ -110,6 +111,12 @@ impl Library {
     pub fn flags_clear(&self, status: &mut [u32; 2], mask: u32) {
         // SAFETY: as above.
         unsafe { c::cuongphemi_flags_clear(status, mask) }
+    }
+
+    /// The flags that were up; they are clear then.
+    pub fn flags_take(&self, status: &mut [u32; 2]) -> u32 {
+        // SAFETY: as above.
+        unsafe { c::cuongphemi_flags_take(status) }
     }
 
     pub fn priority_put(&self, status: &mut [u32; 2], word: u32) {

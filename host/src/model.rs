@@ -1,8 +1,9 @@
 //! The message handler, rule by rule, in the order of the paper.
 //!
-//! Each function follows one rule, the tables are written as tables, and every function is total: whatever the
-//! fields hold, none panics and none reads or writes outside a slice. It is plain Rust as one would write it
-//! without proofs, sets of bits as words and nothing allocated, so that it also serves as a measure of speed.
+//! Each function follows one rule, the tables are written as tables, and every public function is total: whatever
+//! the fields hold, none panics and none reads or writes outside a slice. It is plain Rust as one would write it
+//! without proofs, sets of bits as words, elements and filters as slices of the memory, nothing copied that need not
+//! be and nothing allocated, so that it also serves as a measure of speed.
 //!
 //! A call answers `Ok` with its values or `Err` with the number of its refusal. A refusal changes nothing.
 
@@ -115,9 +116,9 @@ fn word(memory: &[u32], at: u32) -> u32 {
     memory.get(at as usize).copied().unwrap_or(0)
 }
 
-/// Writes the words of one element. Only called once the test for 20 is passed.
-fn put_words(memory: &mut [u32], at: u32, words: &[u32]) {
-    memory[at as usize..][..words.len()].copy_from_slice(words);
+/// So many words of the memory from a place on, none where they are not all inside.
+fn words(memory: &[u32], at: u32, count: u32) -> &[u32] {
+    memory.get(at as usize..).and_then(|rest| rest.get(..count as usize)).unwrap_or(&[])
 }
 
 // ------------------------------------------------------------------------------------------------------
@@ -300,8 +301,15 @@ pub struct Section {
     pub words: u32,
 }
 
+impl Section {
+    /// The word behind its last one.
+    fn end(&self) -> u32 {
+        self.start + self.words
+    }
+}
+
 /// One section. Of count 0 it has no words, and its start is ignored and reported as 0.
-#[inline]
+#[inline(always)]
 pub fn section(registers: &Registers, number: usize) -> Section {
     let r = registers;
     // Count, words each, and the register with the start in bits 15:2.
@@ -322,9 +330,67 @@ pub fn section(registers: &Registers, number: usize) -> Section {
 }
 
 /// The seven sections.
-#[inline]
+#[inline(always)]
 pub fn sections(registers: &Registers) -> [Section; 7] {
-    std::array::from_fn(|number| section(registers, number))
+    [
+        section(registers, STANDARD_FILTERS),
+        section(registers, EXTENDED_FILTERS),
+        section(registers, RX_FIFO_0),
+        section(registers, RX_FIFO_1),
+        section(registers, RX_BUFFERS),
+        section(registers, TX_EVENTS),
+        section(registers, TX_BUFFERS),
+    ]
+}
+
+/// Where an element stands: its first word and how many it has.
+#[derive(Clone, Copy)]
+struct Element {
+    at: u32,
+    words: u32,
+}
+
+impl Element {
+    /// An element of a section, by its number there.
+    fn nth(registers: &Registers, section_number: usize, words: u32, nth: u32) -> Element {
+        Element { at: section(registers, section_number).start + nth * words, words }
+    }
+
+    fn in_fifo(registers: &Registers, fifo: u32, place: u32) -> Element {
+        let number = if fifo == 0 { RX_FIFO_0 } else { RX_FIFO_1 };
+        Element::nth(registers, number, size_words(registers.fifo_size_code(fifo)), place)
+    }
+
+    fn of_rx_buffer(registers: &Registers, buffer: u32) -> Element {
+        Element::nth(registers, RX_BUFFERS, size_words(registers.rx_buffer_size_code()), buffer)
+    }
+
+    fn of_event(registers: &Registers, place: u32) -> Element {
+        Element::nth(registers, TX_EVENTS, 2, place)
+    }
+
+    fn of_tx_buffer(registers: &Registers, buffer: u32) -> Element {
+        Element::nth(registers, TX_BUFFERS, size_words(registers.tx_size_code()), buffer)
+    }
+
+    fn read(self, memory: &[u32]) -> &[u32] {
+        words(memory, self.at, self.words)
+    }
+
+    /// Its words to be written. Only called once the test for 20 is passed.
+    fn write(self, memory: &mut [u32]) -> &mut [u32] {
+        &mut memory[self.at as usize..][..self.words as usize]
+    }
+}
+
+/// The two words of header that every element has.
+fn header_words(element: &[u32]) -> [u32; 2] {
+    element.first_chunk().copied().unwrap_or_default()
+}
+
+/// The data bytes that an element has room for.
+fn room_bytes(element: &[u32]) -> u32 {
+    4 * (element.len() as u32).saturating_sub(2)
 }
 
 // ------------------------------------------------------------------------------------------------------
@@ -344,6 +410,7 @@ fn refuse_start<T>(number: u32, first: u32, second: u32) -> Result<T, StartRefus
 }
 
 /// The layout verdict: the sections as reported, or one of 10 to 15. The lowest number is given.
+#[inline]
 pub fn layout_verdict(registers: &Registers, memory_length: usize) -> Result<[Section; 7], StartRefusal> {
     // 10: the memory isn't 2,560 words.
     if memory_length != MEMORY_WORDS {
@@ -351,7 +418,9 @@ pub fn layout_verdict(registers: &Registers, memory_length: usize) -> Result<[Se
     }
 
     // 11: a bit that must be 0 is set.
-    if registers.words().into_iter().zip(NAMED_BITS).any(|(value, named)| value & !named != 0) {
+    let unnamed =
+        registers.words().into_iter().zip(NAMED_BITS).fold(0, |bits, (value, named)| bits | value & !named);
+    if unnamed != 0 {
         return refuse_start(11, NO_SECTION, NO_SECTION);
     }
 
@@ -379,19 +448,16 @@ pub fn layout_verdict(registers: &Registers, memory_length: usize) -> Result<[Se
     // 14: a section ends past the memory; the first is named.
     let all = sections(registers);
     for (section, place) in all.iter().enumerate() {
-        if (place.start + place.words) as usize > memory_length {
+        if place.end() as usize > memory_length {
             return refuse_start(14, section as u32, NO_SECTION);
         }
     }
 
-    // 15: two sections share a word; pairs order by the lower section, then the higher.
+    // 15: two sections share a word; pairs order by the lower section, then the higher. A section without words
+    // starts and ends at 0, so nothing starts before its end.
     for lower in 0..7 {
         for higher in lower + 1..7 {
-            // Shared words run from the later start to the earlier end.
-            let later_start = all[lower].start.max(all[higher].start);
-            let earlier_end = (all[lower].start + all[lower].words).min(all[higher].start + all[higher].words);
-            let both_have_words = all[lower].words > 0 && all[higher].words > 0;
-            if both_have_words && later_start < earlier_end {
+            if all[lower].start < all[higher].end() && all[higher].start < all[lower].end() {
                 return refuse_start(15, lower as u32, higher as u32);
             }
         }
@@ -405,23 +471,35 @@ pub fn held_places(ring: Ring, size: u32) -> impl Iterator<Item = u32> {
     (0..ring.fill.min(size)).map(move |older| (ring.oldest % size + older) % size)
 }
 
+/// The same as bits, of a ring that fits its size, which is at most 32.
+fn held_bits(ring: Ring, size: u32) -> u64 {
+    let run = ones(ring.fill) << ring.oldest;
+    // What runs past the last place goes on at place 0.
+    (run | run >> size) & ones(size)
+}
+
 /// How many held places are older than this one, or nothing if it is not held.
 fn older_than(ring: Ring, size: u32, place: u32) -> Option<u32> {
     if place >= size {
         return None;
     }
     // Steps in the circle from the oldest place to this one.
-    let older = (place + size - ring.oldest % size) % size;
+    let older = if place >= ring.oldest { place - ring.oldest } else { place + (size - ring.oldest) };
     (older < ring.fill).then_some(older)
 }
 
-/// The put place: oldest + fill modulo size, 0 at size 0.
-pub fn put_place(ring: Ring, size: u32) -> u32 {
-    if size == 0 {
-        0
+/// A place in the circle, from a number of at most twice the size.
+fn in_circle(number: u32, size: u32) -> u32 {
+    if number < size {
+        number
     } else {
-        ((u64::from(ring.oldest) + u64::from(ring.fill)) % u64::from(size)) as u32
+        number - size
     }
+}
+
+/// The put place of a ring that fits its size: oldest + fill modulo size, 0 at size 0.
+pub fn put_place(ring: Ring, size: u32) -> u32 {
+    in_circle(ring.oldest.wrapping_add(ring.fill), size)
 }
 
 /// The oldest place must be below the size and the fill not above it; both are 0 at size 0.
@@ -465,11 +543,9 @@ pub fn unfit(state: &State, record: &Record, memory_length: usize) -> bool {
     }
 
     // Shared FIFO pending bits not exactly those of its held places.
-    if !r.queue_mode() {
-        let held = held_places(state.shared, r.shared()).fold(0, |bits, place| bits | 1u64 << place);
-        if u64::from(state.pending) >> r.dedicated() != held {
-            return true;
-        }
+    let shared_pending = u64::from(state.pending) >> r.dedicated();
+    if !r.queue_mode() && shared_pending != held_bits(state.shared, r.shared()) {
+        return true;
     }
 
     // A flag outside 0 to 15 and 19.
@@ -562,24 +638,16 @@ pub fn extended_matches(filter: &Filter, id: u32, xidam: u32) -> bool {
 
 /// Rule 2: the list of the frame's kind is tried from element 0, and the first match ends the search.
 pub fn first_match(registers: &Registers, memory: &[u32], id: u32, xtd: bool) -> Option<(u32, Filter)> {
+    let Section { start, words: count } =
+        section(registers, if xtd { EXTENDED_FILTERS } else { STANDARD_FILTERS });
+    let list = words(memory, start, count);
     if xtd {
-        let list = section(registers, EXTENDED_FILTERS).start;
-        for index in 0..registers.extended_filters() {
-            let filter = extended_filter(word(memory, list + 2 * index), word(memory, list + 2 * index + 1));
-            if extended_matches(&filter, id, registers.xidam) {
-                return Some((index, filter));
-            }
-        }
+        let filters = list.chunks_exact(2).map(|f| extended_filter(f[0], f[1]));
+        (0..).zip(filters).find(|(_, filter)| extended_matches(filter, id, registers.xidam))
     } else {
-        let list = section(registers, STANDARD_FILTERS).start;
-        for index in 0..registers.standard_filters() {
-            let filter = standard_filter(word(memory, list + index));
-            if standard_matches(&filter, id) {
-                return Some((index, filter));
-            }
-        }
+        let filters = list.iter().map(|s0| standard_filter(*s0));
+        (0..).zip(filters).find(|(_, filter)| standard_matches(filter, id))
     }
-    None
 }
 
 /// Where the filters send a frame, before anyone looks whether there is room.
@@ -659,40 +727,31 @@ fn word_0_identifier(word0: u32) -> u32 {
     }
 }
 
-/// The words of an element: two of header, then those of the data. The largest element has 18.
-#[derive(Clone, Copy, Debug, PartialEq, Eq)]
-pub struct Element {
-    words: [u32; 18],
-    count: usize,
-}
-
-impl Element {
-    /// Byte 0 in bits 7:0, bytes past the size dropped, unused bytes 0.
-    fn new(word0: u32, word1: u32, data: &[u8], size_code: u32) -> Element {
-        let mut words = [0; 18];
-        words[0] = word0;
-        words[1] = word1;
-        let kept = data.len().min(size_bytes(size_code) as usize);
-        for (word, bytes) in words[2..].iter_mut().zip(data[..kept].chunks(4)) {
-            for (at, byte) in bytes.iter().enumerate() {
-                *word |= u32::from(*byte) << (8 * at);
-            }
-        }
-        Element { words, count: size_words(size_code) as usize }
+/// Writes all words of an element: two of header, then the data, byte 0 in bits 7:0. Bytes past its size are
+/// dropped, unused bytes are 0.
+pub fn put_element(element: &mut [u32], header: [u32; 2], data: &[u8]) {
+    let [word0, word1, room @ ..] = element else {
+        return;
+    };
+    [*word0, *word1] = header;
+    let (whole, rest) = data[..data.len().min(4 * room.len())].as_chunks();
+    let (used, unused) = room.split_at_mut(whole.len());
+    for (word, bytes) in used.iter_mut().zip(whole) {
+        *word = u32::from_le_bytes(*bytes);
     }
-
-    pub fn words(&self) -> &[u32] {
-        &self.words[..self.count]
+    unused.fill(0);
+    if let Some(last) = unused.first_mut() {
+        *last = rest.iter().rev().fold(0, |word, byte| word << 8 | u32::from(*byte));
     }
 }
 
-/// An Rx element: word 1 has ANMF 31, filter index 30:24 (0 if ANMF), timestamp 15:0.
-pub fn rx_element(frame: &Frame, data: &[u8], index: Option<u32>, timestamp: u16, size_code: u32) -> Element {
+/// The header of an Rx element: word 1 has ANMF 31, filter index 30:24 (0 if ANMF), timestamp 15:0.
+pub fn rx_header_words(frame: &Frame, index: Option<u32>, timestamp: u16) -> [u32; 2] {
     let filter_bits = match index {
         None => 1 << 31,
         Some(index) => (index & 0x7F) << 24,
     };
-    Element::new(word_0(frame), filter_bits | word_1_common(frame) | u32::from(timestamp), data, size_code)
+    [word_0(frame), filter_bits | word_1_common(frame) | u32::from(timestamp)]
 }
 
 /// The header of an Rx element as it is read.
@@ -726,11 +785,15 @@ pub fn rx_header(word0: u32, word1: u32) -> RxHeader {
     }
 }
 
-/// Writes the first data bytes of the element that starts at word `element`, one for each byte of the output.
-fn put_bytes(memory: &[u32], element: u32, output: &mut [u8]) {
-    for (nth, bytes) in output.chunks_mut(4).enumerate() {
-        let value = word(memory, element.saturating_add(2 + nth as u32)).to_le_bytes();
-        bytes.copy_from_slice(&value[..bytes.len()]);
+/// Writes the first data bytes of an element, one for each byte of the output.
+fn put_bytes(element: &[u32], output: &mut [u8]) {
+    let data = element.get(2..).unwrap_or(&[]);
+    let (whole, rest) = output.as_chunks_mut();
+    for (bytes, word) in whole.iter_mut().zip(data) {
+        *bytes = word.to_le_bytes();
+    }
+    if let Some(last) = data.get(whole.len()) {
+        rest.iter_mut().zip(last.to_le_bytes()).for_each(|(byte, value)| *byte = value);
     }
 }
 
@@ -738,10 +801,10 @@ fn put_bytes(memory: &[u32], element: u32, output: &mut [u8]) {
 // What goes out
 // ------------------------------------------------------------------------------------------------------
 
-/// A Tx element: word 1 has marker 31:24, event wanted 23, the rest 0.
-pub fn tx_element(frame: &Frame, data: &[u8], marker: u8, wish: bool, size_code: u32) -> Element {
+/// The header of a Tx element: word 1 has marker 31:24, event wanted 23, the rest 0.
+pub fn tx_header_words(frame: &Frame, marker: u8, wish: bool) -> [u32; 2] {
     let own = u32::from(marker) << 24 | u32::from(wish) << 23;
-    Element::new(word_0(frame), own | word_1_common(frame), data, size_code)
+    [word_0(frame), own | word_1_common(frame)]
 }
 
 /// Rank by arbitration, smaller wins.
@@ -762,13 +825,6 @@ pub fn rank_of_word_0(word0: u32) -> u32 {
     rank(word_0_identifier(word0), bit(word0, 30), bit(word0, 29))
 }
 
-/// The address of a Tx buffer's element. A buffer number far past the count gives an address past the memory.
-fn tx_address(registers: &Registers, buffer: u32) -> u32 {
-    section(registers, TX_BUFFERS)
-        .start
-        .saturating_add(buffer.saturating_mul(size_words(registers.tx_size_code())))
-}
-
 /// Candidates: every pending dedicated buffer, with the shared FIFO's oldest or every pending queue buffer. One
 /// bit for each.
 pub fn candidates(state: &State) -> u32 {
@@ -785,12 +841,15 @@ pub fn candidates(state: &State) -> u32 {
 
 /// The buffer to send next: the smallest rank, and of equal ranks the lower buffer number (house).
 pub fn chosen_buffer(state: &State, memory: &[u32]) -> Option<u32> {
+    let r = &state.registers;
+    let start = section(r, TX_BUFFERS).start;
+    let each = size_words(r.tx_size_code());
     let mut best: Option<(u32, u32)> = None;
     let mut left = candidates(state);
     while left != 0 {
         let buffer = left.trailing_zeros();
         left &= left - 1;
-        let rank = rank_of_word_0(word(memory, tx_address(&state.registers, buffer)));
+        let rank = rank_of_word_0(word(memory, start + buffer * each));
         // Buffers come in the order of their numbers, so an equal rank stays with the lower one.
         if best.is_none_or(|(best_rank, _)| rank < best_rank) {
             best = Some((rank, buffer));
@@ -812,17 +871,11 @@ pub fn as_sent(registers: &Registers, word0: u32, word1: u32, error_passive: boo
 }
 
 /// Writes the bytes to send, those of the element and 0xCC past its size, and answers how many.
-pub fn put_sent_bytes(
-    registers: &Registers,
-    memory: &[u32],
-    buffer: u32,
-    sent: &Frame,
-    output: &mut [u8; OUTPUT_BYTES],
-) -> u32 {
+pub fn put_sent_bytes(element: &[u32], sent: &Frame, output: &mut [u8; OUTPUT_BYTES]) -> u32 {
     let length = data_length(sent.rtr, sent.fdf, sent.dlc);
-    let own = length.min(size_bytes(registers.tx_size_code()));
-    put_bytes(memory, tx_address(registers, buffer), &mut output[..own as usize]);
-    output[own as usize..length as usize].fill(0xCC);
+    let (own, past) = output[..length as usize].split_at_mut(length.min(room_bytes(element)) as usize);
+    put_bytes(element, own);
+    past.fill(0xCC);
     length
 }
 
@@ -947,28 +1000,6 @@ fn discarded(reason: u32, index: Option<u32>) -> Received {
     Received { outcome: Outcome::Discarded { reason }, index }
 }
 
-/// The ring of FIFO 0, or of FIFO 1 for any other number.
-fn fifo_ring(state: &mut State, fifo: u32) -> &mut Ring {
-    if fifo == 0 {
-        &mut state.fifo0
-    } else {
-        &mut state.fifo1
-    }
-}
-
-fn fifo_address(registers: &Registers, fifo: u32, place: u32) -> u32 {
-    let number = if fifo == 0 { RX_FIFO_0 } else { RX_FIFO_1 };
-    section(registers, number).start + place * size_words(registers.fifo_size_code(fifo))
-}
-
-fn rx_buffer_address(registers: &Registers, buffer: u32) -> u32 {
-    section(registers, RX_BUFFERS).start + buffer * size_words(registers.rx_buffer_size_code())
-}
-
-fn event_address(registers: &Registers, place: u32) -> u32 {
-    section(registers, TX_EVENTS).start + 2 * place
-}
-
 /// Rule 6: puts a frame into a FIFO and sets the flags of that FIFO. Answers the place, or nothing if lost.
 #[allow(clippy::too_many_arguments)]
 fn store_in_fifo(
@@ -981,10 +1012,9 @@ fn store_in_fifo(
     index: Option<u32>,
     timestamp: u16,
 ) -> Option<u32> {
-    let r = state.registers;
+    let State { registers: r, fifo0, fifo1, .. } = state;
+    let (ring, group) = if fifo == 0 { (fifo0, 0) } else { (fifo1, 4) };
     let size = r.fifo_size(fifo);
-    let group = if fifo == 0 { 0 } else { 4 };
-    let ring = fifo_ring(state, fifo);
 
     // Blocking FIFO full, or any FIFO of size 0: frame lost.
     let full = ring.fill == size;
@@ -996,7 +1026,7 @@ fn store_in_fifo(
     let place = put_place(*ring, size);
     if full {
         // Overwrite and full: the oldest is overwritten; oldest place and put place move one on. Not lost.
-        ring.oldest = (ring.oldest + 1) % size;
+        ring.oldest = in_circle(ring.oldest + 1, size);
     } else {
         ring.fill += 1;
         // Watermark when fill rises to it (1 to 64), full when fill rises to the size.
@@ -1009,8 +1039,8 @@ fn store_in_fifo(
         }
     }
     raise(record, group + FIFO_NEW);
-    let element = rx_element(frame, data, index, timestamp, r.fifo_size_code(fifo));
-    put_words(memory, fifo_address(&r, fifo, place), element.words());
+    let element = Element::in_fifo(r, fifo, place).write(memory);
+    put_element(element, rx_header_words(frame, index, timestamp), data);
     Some(place)
 }
 
@@ -1069,9 +1099,8 @@ pub fn receive(
             if bit64(state.new_data, buffer) {
                 discarded(REASON_LOCKED, Some(index))
             } else {
-                let r = state.registers;
-                let element = rx_element(frame, data, Some(index), timestamp, r.rx_buffer_size_code());
-                put_words(memory, rx_buffer_address(&r, buffer), element.words());
+                let element = Element::of_rx_buffer(&state.registers, buffer).write(memory);
+                put_element(element, rx_header_words(frame, Some(index), timestamp), data);
                 state.new_data |= 1 << buffer;
                 raise(record, RX_BUFFER_STORED);
                 Received { outcome: Outcome::StoredBuffer { buffer }, index: Some(index) }
@@ -1089,10 +1118,11 @@ pub struct Read {
 }
 
 /// Writes min(frame, element) bytes into the lent 64 and leaves the rest.
-fn read_rx_element(memory: &[u32], element: u32, size_code: u32, output: &mut [u8; OUTPUT_BYTES]) -> Read {
-    let header = rx_header(word(memory, element), word(memory, element + 1));
-    let bytes = data_length(header.rtr, header.fdf, header.dlc).min(size_bytes(size_code));
-    put_bytes(memory, element, &mut output[..bytes as usize]);
+fn read_rx_element(element: &[u32], output: &mut [u8; OUTPUT_BYTES]) -> Read {
+    let [word0, word1] = header_words(element);
+    let header = rx_header(word0, word1);
+    let bytes = data_length(header.rtr, header.fdf, header.dlc).min(room_bytes(element));
+    put_bytes(element, &mut output[..bytes as usize]);
     Read { header, bytes }
 }
 
@@ -1118,13 +1148,12 @@ pub fn read_fifo(
     let Ok(output) = output.try_into() else {
         return Err(30);
     };
-    let r = &state.registers;
-    Ok(read_rx_element(memory, fifo_address(r, fifo, place), r.fifo_size_code(fifo), output))
+    Ok(read_rx_element(Element::in_fifo(&state.registers, fifo, place).read(memory), output))
 }
 
 /// Acknowledging element A releases all held up to and including A.
 fn release_up_to(ring: &mut Ring, size: u32, place: u32, older: u32) {
-    ring.oldest = (place + 1) % size;
+    ring.oldest = in_circle(place + 1, size);
     ring.fill -= older + 1;
 }
 
@@ -1143,7 +1172,7 @@ pub fn acknowledge_fifo(
     if fifo > 1 || place >= size {
         return Err(23);
     }
-    let ring = fifo_ring(state, fifo);
+    let ring = if fifo == 0 { &mut state.fifo0 } else { &mut state.fifo1 };
     let Some(older) = older_than(*ring, size, place) else {
         return Err(29);
     };
@@ -1171,8 +1200,7 @@ pub fn read_rx_buffer(
     let Ok(output) = output.try_into() else {
         return Err(30);
     };
-    let r = &state.registers;
-    Ok(read_rx_element(memory, rx_buffer_address(r, buffer), r.rx_buffer_size_code(), output))
+    Ok(read_rx_element(Element::of_rx_buffer(&state.registers, buffer).read(memory), output))
 }
 
 /// Call 6: release an Rx buffer, which clears its new-data bit.
@@ -1200,9 +1228,8 @@ fn request(
     marker: u8,
     wish: bool,
 ) {
-    let r = state.registers;
-    let element = tx_element(frame, data, marker, wish, r.tx_size_code());
-    put_words(memory, tx_address(&r, buffer), element.words());
+    let element = Element::of_tx_buffer(&state.registers, buffer).write(memory);
+    put_element(element, tx_header_words(frame, marker, wish), data);
     let mask = 1u32 << buffer;
     state.pending |= mask;
     state.sent &= !mask;
@@ -1253,10 +1280,11 @@ pub fn request_shared(
     if malformed(frame, data) {
         return Err(21);
     }
-    let r = state.registers;
+    let r = &state.registers;
     let place = if r.queue_mode() {
         // A queue request takes the lowest-numbered shared buffer that is not pending (house).
-        (0..r.shared()).find(|place| !bit(state.pending, r.dedicated() + place))
+        let lowest = (!u64::from(state.pending) >> r.dedicated()).trailing_zeros();
+        (lowest < r.shared()).then_some(lowest)
     } else if state.shared.fill < r.shared() {
         // A FIFO uses its places in a circle.
         Some(put_place(state.shared, r.shared()))
@@ -1266,10 +1294,10 @@ pub fn request_shared(
     let Some(place) = place else {
         return Err(25);
     };
+    let buffer = r.dedicated() + place;
     if !r.queue_mode() {
         state.shared.fill += 1;
     }
-    let buffer = r.dedicated() + place;
     request(state, memory, buffer, frame, data, marker, wish);
     Ok(buffer)
 }
@@ -1325,10 +1353,10 @@ pub fn choice(
         return Ok(None);
     };
     let r = &state.registers;
-    let word0 = word(memory, tx_address(r, buffer));
-    let word1 = word(memory, tx_address(r, buffer) + 1);
+    let element = Element::of_tx_buffer(r, buffer).read(memory);
+    let [word0, word1] = header_words(element);
     let header = as_sent(r, word0, word1, error_passive);
-    let bytes = put_sent_bytes(r, memory, buffer, &header, output);
+    let bytes = put_sent_bytes(element, &header, output);
     Ok(Some(Choice { buffer, marker: bits(word1, 31, 24) as u8, wish: bit(word1, 23), header, bytes }))
 }
 
@@ -1344,13 +1372,13 @@ pub fn report_sent(
     if unfit(state, record, memory.len()) {
         return Err(20);
     }
-    let r = state.registers;
-    if buffer >= r.tx_buffers() {
+    if buffer >= state.registers.tx_buffers() {
         return Err(23);
     }
     if chosen_buffer(state, memory) != Some(buffer) {
         return Err(28);
     }
+    let r = &state.registers;
 
     // A send clears pending and sets sent.
     state.pending &= !(1u32 << buffer);
@@ -1359,7 +1387,7 @@ pub fn report_sent(
 
     // The shared FIFO moves one on; flag 11 when this send emptied it.
     if buffer >= r.dedicated() && !r.queue_mode() {
-        state.shared.oldest = (state.shared.oldest + 1) % r.shared();
+        state.shared.oldest = in_circle(state.shared.oldest + 1, r.shared());
         state.shared.fill -= 1;
         if state.shared.fill == 0 {
             raise(record, TX_FIFO_EMPTIED);
@@ -1367,16 +1395,15 @@ pub fn report_sent(
     }
 
     // The event, if one is wanted. A full event list or one of size 0 loses the new event.
-    let word0 = word(memory, tx_address(&r, buffer));
-    let word1 = word(memory, tx_address(&r, buffer) + 1);
+    let [word0, word1] = header_words(Element::of_tx_buffer(r, buffer).read(memory));
     if bit(word1, 23) {
         let size = r.events_size();
         if size == 0 || state.events.fill == size {
             raise(record, EVENT_LOST);
         } else {
-            let sent = as_sent(&r, word0, word1, error_passive);
+            let sent = as_sent(r, word0, word1, error_passive);
             let event = event_words(&sent, bits(word1, 31, 24) as u8, timestamp);
-            put_words(memory, event_address(&r, put_place(state.events, size)), &event);
+            Element::of_event(r, put_place(state.events, size)).write(memory).copy_from_slice(&event);
             state.events.fill += 1;
             raise(record, EVENT_NEW);
             // Watermark when fill rises to it (1 to 32), full when fill rises to the size.
@@ -1404,8 +1431,8 @@ pub fn read_event(state: &State, record: &Record, memory: &[u32], place: u32) ->
     if older_than(state.events, size, place).is_none() {
         return Err(29);
     }
-    let at = event_address(&state.registers, place);
-    Ok(event_fields(word(memory, at), word(memory, at + 1)))
+    let [word0, word1] = header_words(Element::of_event(&state.registers, place).read(memory));
+    Ok(event_fields(word0, word1))
 }
 
 /// Call 13: acknowledge an event, and all older ones with it.

@@ -38,5 +38,7 @@ fn interrupt_code_changes_its_own_bits() {
         assert_eq!(after(Library::flags_raise), [flags | word, priority]);
         assert_eq!(after(Library::flags_clear), [flags & !word, priority]);
         assert_eq!(after(Library::priority_put), [flags, word]);
+        let mut status = [flags, priority];
+        assert_eq!((Library.flags_take(&mut status), status), (flags, [0, priority]));
     }
 }

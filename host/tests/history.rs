@@ -785,7 +785,7 @@ fn hostile_inputs_to_the_single_rules() {
         let (state, record) = arbitrary_state(&mut random);
         let r = &state.registers;
         let length = random.below(20) as usize;
-        let memory = arbitrary_memory(&mut random, length);
+        let mut memory = arbitrary_memory(&mut random, length);
         let (frame, data) = arbitrary_frame(&mut random);
         let (a, b) = (random.odd_word(), random.odd_word());
         sections(r);
@@ -803,9 +803,9 @@ fn hostile_inputs_to_the_single_rules() {
         candidates(&state);
         chosen_buffer(&state, &memory);
         let sent = as_sent(r, a, b, frame.esi);
-        put_sent_bytes(r, &memory, a, &sent, &mut [0; 64]);
-        rx_element(&frame, &data, Some(a), 0, b);
-        tx_element(&frame, &data, 0, frame.brs, b);
+        put_sent_bytes(&memory, &sent, &mut [0; 64]);
+        put_element(&mut memory, rx_header_words(&frame, Some(a), 0), &data);
+        put_element(&mut memory, tx_header_words(&frame, 0, frame.brs), &data);
         event_words(&frame, 0, 0);
         event_fields(a, b);
         rx_header(a, b);

@@ -371,7 +371,9 @@ fn case_b_filters_taken_apart() {
 fn star_element_words() {
     let expected = [0x048C_0000, 0x0238_1234, 0x0403_0201, 0x0807_0605];
     let frame = Frame { id: 0x123, fdf: true, brs: true, dlc: 8, ..Frame::default() };
-    assert_eq!(rx_element(&frame, &BYTES[..8], Some(2), 0x1234, 0).words(), expected);
+    let mut element = [0xDEAD_BEEF; 4];
+    put_element(&mut element, rx_header_words(&frame, Some(2), 0x1234), &BYTES[..8]);
+    assert_eq!(element, expected);
 
     // The same by the calls: the third filter sends it to FIFO 0.
     let mut h =
@@ -912,10 +914,9 @@ fn read_refusals() {
 #[test]
 fn tx_element_words() {
     let frame = Frame { id: 0x0123_4567, xtd: true, rtr: false, fdf: true, brs: true, esi: true, dlc: 3 };
-    assert_eq!(
-        tx_element(&frame, &[1, 2, 3], 0xAB, true, 1).words(),
-        [0xC123_4567, 0xABB3_0000, 0x0003_0201, 0, 0]
-    );
+    let mut element = [0xDEAD_BEEF; 5];
+    put_element(&mut element, tx_header_words(&frame, 0xAB, true), &[1, 2, 3]);
+    assert_eq!(element, [0xC123_4567, 0xABB3_0000, 0x0003_0201, 0, 0]);
 }
 
 #[test]

@@ -185,8 +185,7 @@ fn bytes_text(output: &[u8], count: u32) -> String {
 }
 
 fn read_text(answer: &Answer, output: &[u8]) -> String {
-    let (time, filter, count) = (answer[7], answer[8], answer[9]);
-    let (anmf, index) = filter.checked_sub(1).map_or((1, 0), |index| (0, index));
+    let [time, index, anmf, count] = [answer[7], answer[8], answer[9], answer[10]];
     let bytes = bytes_text(output, count);
     format!(" read{} anmf {anmf} index {index} time {time}{bytes}", frame_text(answer, 0))
 }
@@ -242,24 +241,12 @@ fn printed(calls: &dyn Calls, cases: &str) -> String {
     text
 }
 
-/// An expected line as the functions for C tell it: of an element that says ANMF they hide the index bits. In what
-/// the handler wrote these are 0; the case `by_hand` sets others.
-fn over_the_boundary(line: &str) -> String {
-    match line.split_once(" anmf 1 index ") {
-        None => line.to_string(),
-        Some((before, after)) => {
-            let after = after.trim_start_matches(|letter: char| letter.is_ascii_digit());
-            format!("{before} anmf 1 index 0{after}")
-        }
-    }
-}
-
 /// Every line that is not as expected, with its number in the file.
 fn differences(who: &str, expected: &str, printed: &str) -> Vec<String> {
-    let expected: Vec<String> = expected.lines().map(over_the_boundary).collect();
+    let expected: Vec<&str> = expected.lines().collect();
     let printed: Vec<&str> = printed.lines().collect();
     (0..expected.len().max(printed.len()))
-        .map(|at| (at + 1, expected.get(at).map(String::as_str), printed.get(at).copied()))
+        .map(|at| (at + 1, expected.get(at).copied(), printed.get(at).copied()))
         .filter(|(_, expected, came)| expected != came)
         .map(|(number, expected, came)| {
             let (expected, came) = (expected.unwrap_or("no such line"), came.unwrap_or("no such line"));
