@@ -16,7 +16,7 @@
  *
  * To begin:
  *     1. call cuongphemi_never_started on the state, before the first start;
- *     2. write the filter elements into the memory (cuongphemi_start writes none of it);
+ *     2. write the filter elements into the memory; the rest of it may be any words, and no start writes it;
  *     3. call cuongphemi_start with the registers.
  * Step 1 is not optional. With it every other call is refused (CUONGPHEMI_REFUSED_UNFIT) until a start is accepted.
  * Zeroed buffers do not serve for it: a zeroed state is what a start with all registers 0 leaves, a box without
@@ -39,8 +39,10 @@
 extern "C" {
 #endif
 
-/* ---- the version of this interface: a program that must change has a new major, one that may use more a new minor */
-
+/*
+ * ---- the version of this interface, and as one number to compare. What old programs must be changed for raises the
+ * major, what is added the minor, and what changes neither the patch.
+ */
 #define CUONGPHEMI_VERSION_MAJOR 1
 #define CUONGPHEMI_VERSION_MINOR 0
 #define CUONGPHEMI_VERSION_PATCH 0
@@ -101,9 +103,9 @@ extern "C" {
  *
  * A field NAME stands in a word from bit NAME_SHIFT on, and NAME_MASK is its largest value. CUONGPHEMI_TAKE(word,
  * NAME) is the field's value in a word; CUONGPHEMI_PUT(value, NAME) is a word with that field alone, to be ORed with
- * others.
- * A value over the field's largest becomes a word of ones: as a register's field, a start refuses it
- * (CUONGPHEMI_REFUSED_UNNAMED_BIT). All of it is constant where the values are; a value is evaluated twice.
+ * others. A value over the field's largest makes it a word of ones, which as a register every start refuses
+ * (CUONGPHEMI_REFUSED_UNNAMED_BIT). The macros of this header are constant where their arguments are, and may evaluate
+ * an argument more than once.
  */
 #define CUONGPHEMI_TAKE(word, name) ((uint32_t)(word) >> name##_SHIFT & name##_MASK)
 #define CUONGPHEMI_PUT(value, name) \
@@ -127,8 +129,9 @@ extern "C" {
 #define CUONGPHEMI_REGISTER_GFC 9             /* frames that no filter matches, remote frames */
 #define CUONGPHEMI_REGISTER_XIDAM 10          /* mask for 29-bit identifiers */
 #define CUONGPHEMI_REGISTER_RX_BUFFERS 11     /* how many Rx buffers, to CUONGPHEMI_RX_BUFFERS_MOST */
-#define CUONGPHEMI_REGISTER_FD_ON 12          /* yes or no: FD frames are received, and sent as FD */
-#define CUONGPHEMI_REGISTER_RATE_SWITCH_ON 13 /* yes or no: FD frames are sent with BRS where they have it */
+#define CUONGPHEMI_REGISTER_FD_ON 12          /* yes or no; no: a received FD frame is refused, one to send goes out
+                                                 as classic */
+#define CUONGPHEMI_REGISTER_RATE_SWITCH_ON 13 /* yes or no; no: FD frames go out without BRS */
 
 /* The most that a start accepts of each. */
 #define CUONGPHEMI_FILTERS_11_MOST 128
@@ -309,7 +312,9 @@ extern "C" {
 /*
  * ---- filter elements, which the caller writes into the memory's filter sections
  *
- * The list of the frame's kind, 11-bit or 29-bit, is tried from element 0; the first element that matches decides.
+ * Element i of the 11-bit list is the word start + i; of the 29-bit list, the words start + 2i and start + 2i + 1.
+ * The list of the frame's kind is tried from element 0, and the first element that matches decides. No call refuses a
+ * filter word, whatever it is.
  *
  * Action CUONGPHEMI_ACTION_RX_BUFFER (7): the type plays no part; an identifier equal to ID1 matches (29-bit: after
  * XIDAM); ID2 bits 5:0 are the number of the Rx buffer. With a bit of ID2's 10:9 set the element asks for a debug
@@ -332,6 +337,10 @@ extern "C" {
 #define CUONGPHEMI_ACTION_PRIORITY_FIFO1 6
 #define CUONGPHEMI_ACTION_RX_BUFFER 7
 
+/* The Rx buffer's number in ID2, of both kinds. */
+#define CUONGPHEMI_FILTER_BUFFER_SHIFT 0
+#define CUONGPHEMI_FILTER_BUFFER_MASK 0x3Fu
+
 /* 11-bit: one word. */
 #define CUONGPHEMI_FILTER_11_TYPE_SHIFT 30
 #define CUONGPHEMI_FILTER_11_TYPE_MASK 3u
@@ -345,7 +354,8 @@ extern "C" {
     (CUONGPHEMI_PUT(type, CUONGPHEMI_FILTER_11_TYPE) | CUONGPHEMI_PUT(action, CUONGPHEMI_FILTER_11_ACTION) \
      | CUONGPHEMI_PUT(id1, CUONGPHEMI_FILTER_11_ID1) | CUONGPHEMI_PUT(id2, CUONGPHEMI_FILTER_11_ID2))
 #define CUONGPHEMI_FILTER_11_TO_BUFFER(id, buffer) \
-    CUONGPHEMI_FILTER_11(CUONGPHEMI_FILTER_RANGE, CUONGPHEMI_ACTION_RX_BUFFER, id, buffer)
+    (CUONGPHEMI_FILTER_11(CUONGPHEMI_FILTER_RANGE, CUONGPHEMI_ACTION_RX_BUFFER, id, 0) \
+     | CUONGPHEMI_PUT(buffer, CUONGPHEMI_FILTER_BUFFER))
 
 /* 29-bit: two words, the first with action and ID1, the second with type and ID2. */
 #define CUONGPHEMI_FILTER_29_ACTION_SHIFT 29
@@ -361,7 +371,7 @@ extern "C" {
 #define CUONGPHEMI_FILTER_29_SECOND(type, id2) \
     (CUONGPHEMI_PUT(type, CUONGPHEMI_FILTER_29_TYPE) | CUONGPHEMI_PUT(id2, CUONGPHEMI_FILTER_29_ID2))
 #define CUONGPHEMI_FILTER_29_TO_BUFFER_FIRST(id) CUONGPHEMI_FILTER_29_FIRST(CUONGPHEMI_ACTION_RX_BUFFER, id)
-#define CUONGPHEMI_FILTER_29_TO_BUFFER_SECOND(buffer) CUONGPHEMI_FILTER_29_SECOND(CUONGPHEMI_FILTER_RANGE, buffer)
+#define CUONGPHEMI_FILTER_29_TO_BUFFER_SECOND(buffer) CUONGPHEMI_PUT(buffer, CUONGPHEMI_FILTER_BUFFER)
 
 /*
  * ---- the record: two words, lent as words to the calls and as this struct to the steps in place. A union of both
@@ -426,8 +436,8 @@ struct cuongphemi_record {
  * write it at their end. A flag that an interrupt raises in that record in between is lost. The other calls only read
  * it, for CUONGPHEMI_REFUSED_UNFIT: an interrupt may raise a named flag in it while they run; the flag stays up and
  * changes none of their answers. A step in place, too, reads the record and then writes it, and what an interrupt
- * changes in the same record in between is lost: so of a step of the main code, and so of a step of an interrupt that
- * another interrupt can interrupt.
+ * changes in the same record in between is lost. That goes for a step of the main code, and for a step of an interrupt
+ * that another interrupt can interrupt.
  *
  * Two ways lose nothing.
  *
@@ -449,9 +459,10 @@ struct cuongphemi_record {
  *                            raised_in = 1 - left;
  *                            cuongphemi_flags_raise(&box_record, cuongphemi_flags_take(&own[left]));
  *
- *    This asks that the interrupt runs on the same core as the main code, and to its end before that goes on. An
- *    interrupt that can interrupt another has two records and an index of its own. Where an interrupt puts a priority
- *    too, the main code puts own[left].priority after the take, if the flags taken have CUONGPHEMI_FLAG_PRIORITY.
+ *    This asks that the interrupt runs on the same core as the main code, and to its end before that goes on, and that
+ *    the core stores the index in one step. An interrupt that can interrupt another has two records and an index of
+ *    its own. Where an interrupt puts a priority too, and raises CUONGPHEMI_FLAG_PRIORITY with it, the main code puts
+ *    own[left].priority into the box's record if the flags that it took have that flag.
  */
 
 /*

@@ -38,10 +38,13 @@ static_assert(FILTER(RANGE, REJECT, 0x16, 0x20) == 0x18160020, "filter 0");
 static_assert(FILTER(EITHER, FIFO1, 0x15, 0x120) == 0x50150120, "filter 1");
 static_assert(CUONGPHEMI_FILTER_11_TO_BUFFER(0x130, 4) == 0x39300004, "filter 2");
 static_assert(FILTER(MASKED, FIFO0, 0x700, 0x7CF) == 0x8F0007CF, "filter 3");
+static_assert(CUONGPHEMI_FILTER_11_TO_BUFFER(0x130, 64) == 0xFFFFFFFF, "no such buffer");
 
 /* and of 29 bits, by the positions of the fields */
 static_assert(CUONGPHEMI_FILTER_29_FIRST(CUONGPHEMI_ACTION_PRIORITY_FIFO1, 0x1FFFFFFF) == 0xDFFFFFFF, "F0");
 static_assert(CUONGPHEMI_FILTER_29_SECOND(CUONGPHEMI_FILTER_29_RANGE_WITHOUT_XIDAM, 1) == 0xC0000001, "F1");
+static_assert(CUONGPHEMI_FILTER_29_TO_BUFFER_FIRST(0x12345678) == 0xF2345678, "F0 to a buffer");
+static_assert(CUONGPHEMI_FILTER_29_TO_BUFFER_SECOND(63) == 63, "F1 to a buffer");
 
 /* element sizes and data lengths */
 #define WORDS(bytes) CUONGPHEMI_ELEMENT_WORDS(CUONGPHEMI_SIZE_##bytes)
