@@ -3,7 +3,6 @@
  * records of its own while the main code receives, acknowledges and merges. The signal raises a flag anew only when
  * the main code has seen it arrive; so at the end every flag that was raised has arrived, or one is missing for good.
  */
-#define _POSIX_C_SOURCE 200809L
 #define _XOPEN_SOURCE 700
 #include <signal.h>
 #include <stdio.h>
