@@ -1,6 +1,7 @@
 /*
- * Two boxes on one bus, over the handler. Each has a state, a record and a memory of its own. In each round of the bus both are asked for their
- * choice; the lower rank in arbitration goes out; its sender reports it sent, and the other receives it. What happens is printed line by line.
+ * Two boxes on one bus, over the handler. Each has a state, a record and a memory of its own. In each round of the bus
+ * both are asked for their choice; the lower rank in arbitration goes out; its sender reports it sent, and the other
+ * receives it. What happens is printed line by line.
  *
  *     ./archive && gcc -Wall -Wextra -std=c11 -Iinclude examples/box.c target/staticlib/libcuongphemi.a && ./a.out
  */
@@ -11,20 +12,23 @@
 
 #include "cuongphemi.h"
 
-/* ---- a box, and its three buffers as the calls take them */
+/* ---- a box: its three buffers as the calls take them, and what its interrupt has for itself */
 
 struct box {
     const char *name;
     uint32_t state[CUONGPHEMI_STATE_WORDS];
     union {
         uint32_t words[CUONGPHEMI_RECORD_WORDS];
-        struct cuongphemi_record record;
-    } status;
+        struct cuongphemi_record fields;
+    } record;
     uint32_t memory[CUONGPHEMI_MEMORY_WORDS];
+    struct cuongphemi_record own[2]; /* the interrupt's two records, which no call is lent */
+    volatile unsigned raised_in;     /* in which of them it raises, 0 or 1 */
 };
 
-#define BOX(b)                                                                                                                                       \
-    (b)->state, CUONGPHEMI_STATE_WORDS, (b)->status.words, CUONGPHEMI_RECORD_WORDS, (b)->memory, CUONGPHEMI_MEMORY_WORDS
+#define BOX(b) \
+    (b)->state, CUONGPHEMI_STATE_WORDS, (b)->record.words, CUONGPHEMI_RECORD_WORDS, (b)->memory, \
+        CUONGPHEMI_MEMORY_WORDS
 
 /* The answer of the last call, and the bytes that it wrote. */
 static uint32_t answer[CUONGPHEMI_ANSWER_WORDS];
@@ -35,7 +39,7 @@ static uint8_t output[CUONGPHEMI_OUTPUT_BYTES];
 
 struct frame {
     uint32_t words[CUONGPHEMI_FRAME_WORDS];
-    uint8_t data[64];
+    uint8_t data[CUONGPHEMI_DATA_BYTES_MOST];
     size_t count;
 };
 
@@ -64,12 +68,12 @@ static void print_bytes(const uint8_t *data, size_t count)
         printf("%s%02X", i == 0 ? " |" : " ", data[i]);
 }
 
-static void print_filter(uint32_t number)
+static void print_filter(int matched, uint32_t index)
 {
-    if (number == 0)
-        printf(", no filter");
+    if (matched)
+        printf(", filter %" PRIu32, index);
     else
-        printf(", filter %" PRIu32, number - 1);
+        printf(", no filter");
 }
 
 static void refused(const struct box *b, const char *call, uint32_t number)
@@ -80,9 +84,9 @@ static void refused(const struct box *b, const char *call, uint32_t number)
 /* Calls that this program knows to be right. */
 static void must(const struct box *b, const char *call, uint32_t number)
 {
-    if (number != 0) {
+    if (number != CUONGPHEMI_ACCEPTED) {
         refused(b, call, number);
-        exit(1);
+        exit(EXIT_FAILURE);
     }
 }
 
@@ -91,55 +95,81 @@ static void must(const struct box *b, const char *call, uint32_t number)
 static void start(struct box *b, const uint32_t *registers)
 {
     uint32_t number = cuongphemi_start(BOX(b), registers, CUONGPHEMI_REGISTER_WORDS, ANSWER);
-    if (number != 0) {
-        printf("%s: start refused, %" PRIu32 ", sections %" PRIu32 " and %" PRIu32 "\n", b->name, number, answer[0], answer[1]);
+    if (number != CUONGPHEMI_ACCEPTED) {
+        printf("%s: start refused, %" PRIu32 ", sections %" PRIu32 " and %" PRIu32 "\n", b->name, number,
+               answer[CUONGPHEMI_START_NAMED], answer[CUONGPHEMI_START_NAMED_TOO]);
         return;
     }
     printf("%s: started, sections", b->name);
-    for (int i = 0; i < 7; i++)
-        printf(" %" PRIu32 "+%" PRIu32, answer[2 + 2 * i], answer[3 + 2 * i]);
+    for (int i = 0; i < CUONGPHEMI_SECTIONS; i++)
+        printf(" %" PRIu32 "+%" PRIu32, answer[CUONGPHEMI_START_FIRST_WORD(i)], answer[CUONGPHEMI_START_WORDS(i)]);
     printf("\n");
-}
-
-/* A section's register: how many elements, from which word on. */
-static uint32_t section(uint32_t count, uint32_t word)
-{
-    return count << 16 | word << 2;
 }
 
 /* ---- frames and requests */
 
-static struct frame frame_of(uint32_t id, uint32_t xtd, uint32_t rtr, uint32_t fdf, uint32_t dlc, uint8_t first)
+/* A frame's data are the numbers from `first` on. */
+static struct frame filled(struct frame f, uint8_t first)
 {
-    static const uint8_t fd_bytes[16] = {0, 1, 2, 3, 4, 5, 6, 7, 8, 12, 16, 20, 24, 32, 48, 64};
-    struct frame f = {.words = {id, xtd, rtr, fdf, fdf, 0, dlc}};
-    f.count = rtr ? 0 : fdf ? fd_bytes[dlc] : dlc < 8 ? dlc : 8;
+    f.count = CUONGPHEMI_DATA_BYTES(f.words[CUONGPHEMI_FRAME_RTR], f.words[CUONGPHEMI_FRAME_FDF],
+                                    f.words[CUONGPHEMI_FRAME_DLC]);
     for (size_t i = 0; i < f.count; i++)
         f.data[i] = (uint8_t)(first + i);
     return f;
 }
 
+static struct frame classic(uint32_t id, uint32_t dlc, uint8_t first)
+{
+    struct frame f = {.words = {[CUONGPHEMI_FRAME_ID] = id, [CUONGPHEMI_FRAME_DLC] = dlc}};
+    return filled(f, first);
+}
+
+/* Of 29 bits. */
+static struct frame extended(uint32_t id, uint32_t dlc, uint8_t first)
+{
+    struct frame f = classic(id, dlc, first);
+    f.words[CUONGPHEMI_FRAME_XTD] = CUONGPHEMI_YES;
+    return f;
+}
+
+static struct frame remote(uint32_t id, uint32_t dlc)
+{
+    struct frame f = classic(id, dlc, 0);
+    f.words[CUONGPHEMI_FRAME_RTR] = CUONGPHEMI_YES;
+    return filled(f, 0);
+}
+
+/* FD, with the faster rate. */
+static struct frame fast(uint32_t id, uint32_t dlc, uint8_t first)
+{
+    struct frame f = classic(id, dlc, first);
+    f.words[CUONGPHEMI_FRAME_FDF] = CUONGPHEMI_YES;
+    f.words[CUONGPHEMI_FRAME_BRS] = CUONGPHEMI_YES;
+    return filled(f, first);
+}
+
 static void requested(const struct box *b, const char *call, uint32_t number, const struct frame *f)
 {
-    if (number != 0) {
+    if (number != CUONGPHEMI_ACCEPTED) {
         refused(b, call, number);
         return;
     }
     printf("%s: %s ", b->name, call);
     print_frame(f->words);
-    printf(" in buffer %" PRIu32 "\n", answer[0]);
+    printf(" in buffer %" PRIu32 "\n", answer[CUONGPHEMI_REQUEST_BUFFER]);
 }
 
 static void request_dedicated(struct box *b, uint32_t buffer, struct frame f, uint8_t marker, uint32_t wish)
 {
-    uint32_t number =
-        cuongphemi_request_dedicated(BOX(b), buffer, f.words, CUONGPHEMI_FRAME_WORDS, f.data, f.count, marker, wish, ANSWER);
+    uint32_t number = cuongphemi_request_dedicated(BOX(b), buffer, f.words, CUONGPHEMI_FRAME_WORDS, f.data, f.count,
+                                                   marker, wish, ANSWER);
     requested(b, "requests", number, &f);
 }
 
 static void request_shared(struct box *b, struct frame f, uint8_t marker, uint32_t wish)
 {
-    uint32_t number = cuongphemi_request_shared(BOX(b), f.words, CUONGPHEMI_FRAME_WORDS, f.data, f.count, marker, wish, ANSWER);
+    uint32_t number = cuongphemi_request_shared(BOX(b), f.words, CUONGPHEMI_FRAME_WORDS, f.data, f.count, marker, wish,
+                                                ANSWER);
     requested(b, "requests shared", number, &f);
 }
 
@@ -162,11 +192,11 @@ struct choice {
 static struct choice ask(const struct box *b)
 {
     struct choice c;
-    must(b, "choice", cuongphemi_ask_choice(BOX(b), 0, OUTPUT, ANSWER));
-    c.buffer = answer[0];
-    if (c.buffer != CUONGPHEMI_NOTHING) {
-        memcpy(c.frame.words, answer + 3, sizeof c.frame.words);
-        c.frame.count = answer[10];
+    must(b, "choice", cuongphemi_ask_choice(BOX(b), CUONGPHEMI_NO, OUTPUT, ANSWER));
+    c.buffer = answer[CUONGPHEMI_CHOICE_BUFFER];
+    if (c.buffer != CUONGPHEMI_CHOICE_NOTHING) {
+        memcpy(c.frame.words, answer + CUONGPHEMI_CHOICE_FRAME, sizeof c.frame.words);
+        c.frame.count = answer[CUONGPHEMI_CHOICE_BYTES];
         memcpy(c.frame.data, output, c.frame.count);
     }
     return c;
@@ -174,22 +204,37 @@ static struct choice ask(const struct box *b)
 
 static void receive(struct box *b, const struct frame *f)
 {
-    static const char *const reasons[] = {"remote", "reject", "no match", "priority only", "debug", "misfiled", "locked"};
+    static const char *const reasons[] = {
+        [CUONGPHEMI_REASON_REMOTE] = "remote",
+        [CUONGPHEMI_REASON_REJECT] = "reject",
+        [CUONGPHEMI_REASON_NO_MATCH] = "no match",
+        [CUONGPHEMI_REASON_PRIORITY_ONLY] = "priority only",
+        [CUONGPHEMI_REASON_DEBUG] = "debug",
+        [CUONGPHEMI_REASON_MISFILED] = "misfiled",
+        [CUONGPHEMI_REASON_LOCKED] = "locked",
+    };
     uint32_t number = cuongphemi_receive(BOX(b), f->words, CUONGPHEMI_FRAME_WORDS, f->data, f->count, now, ANSWER);
-    if (number != 0) {
+    if (number != CUONGPHEMI_ACCEPTED) {
         refused(b, "receive", number);
         return;
     }
+    uint32_t where = answer[CUONGPHEMI_RECEIVE_WHERE], filter = answer[CUONGPHEMI_RECEIVE_FILTER];
     printf("%s:   ", b->name);
-    if (answer[0] == CUONGPHEMI_IN_FIFO)
-        printf("stored in FIFO %" PRIu32 " place %" PRIu32, answer[1], answer[2]);
-    else if (answer[0] == CUONGPHEMI_IN_BUFFER)
-        printf("stored in Rx buffer %" PRIu32, answer[1]);
-    else if (answer[0] == CUONGPHEMI_LOST)
-        printf("lost to FIFO %" PRIu32, answer[1]);
-    else
-        printf("discarded, %s", reasons[answer[1]]);
-    print_filter(answer[3]);
+    switch (answer[CUONGPHEMI_RECEIVE_OUTCOME]) {
+    case CUONGPHEMI_OUTCOME_IN_FIFO:
+        printf("stored in FIFO %" PRIu32 " place %" PRIu32, where, answer[CUONGPHEMI_RECEIVE_PLACE]);
+        break;
+    case CUONGPHEMI_OUTCOME_IN_BUFFER:
+        printf("stored in Rx buffer %" PRIu32, where);
+        break;
+    case CUONGPHEMI_OUTCOME_LOST:
+        printf("lost to FIFO %" PRIu32, where);
+        break;
+    case CUONGPHEMI_OUTCOME_DISCARDED:
+        printf("discarded, %s", reasons[where]);
+        break;
+    }
+    print_filter(filter != CUONGPHEMI_RECEIVE_NO_FILTER, filter - 1);
     printf("\n");
 }
 
@@ -197,7 +242,7 @@ static void receive(struct box *b, const struct frame *f)
 static int bus_round(struct box *a, struct box *b)
 {
     struct choice x = ask(a), y = ask(b);
-    int from_a = x.buffer != CUONGPHEMI_NOTHING, from_b = y.buffer != CUONGPHEMI_NOTHING;
+    int from_a = x.buffer != CUONGPHEMI_CHOICE_NOTHING, from_b = y.buffer != CUONGPHEMI_CHOICE_NOTHING;
     if (!from_a && !from_b)
         return 0;
     int a_wins = from_a && (!from_b || rank(x.frame.words) < rank(y.frame.words));
@@ -208,7 +253,7 @@ static int bus_round(struct box *a, struct box *b)
     print_frame(sent->frame.words);
     print_bytes(sent->frame.data, sent->frame.count);
     printf(from_a && from_b ? ", %s waits\n" : "\n", other->name);
-    must(winner, "report", cuongphemi_report_sent(BOX(winner), sent->buffer, 0, now));
+    must(winner, "report", cuongphemi_report_sent(BOX(winner), sent->buffer, CUONGPHEMI_NO, now));
     receive(other, &sent->frame);
     return 1;
 }
@@ -224,20 +269,41 @@ static void bus(struct box *a, struct box *b)
 
 static void print_status(const struct box *b)
 {
+    static const char *const rings[] = {
+        [CUONGPHEMI_RING_FIFO0] = "FIFO 0",
+        [CUONGPHEMI_RING_FIFO1] = "FIFO 1",
+        [CUONGPHEMI_RING_EVENTS] = "event list",
+        [CUONGPHEMI_RING_SHARED] = "shared FIFO",
+    };
     must(b, "status", cuongphemi_status(BOX(b), ANSWER));
-    printf("%s: FIFO 0 holds %" PRIu32 " from %" PRIu32 ", FIFO 1 %" PRIu32 " from %" PRIu32 ", events %" PRIu32 " from %" PRIu32
-           ", pending %" PRIu32 ", flags %05" PRIX32 ", priority %04" PRIX32 "\n",
-           b->name, answer[0], answer[1], answer[3], answer[4], answer[6], answer[7], answer[12], b->status.record.flags,
-           b->status.record.priority);
+    printf("%s:", b->name);
+    for (int i = CUONGPHEMI_RING_FIFO0; i <= CUONGPHEMI_RING_SHARED; i++)
+        printf(" %s holds %" PRIu32 " from %" PRIu32 ",", rings[i], answer[CUONGPHEMI_STATUS_FILL(i)],
+               answer[CUONGPHEMI_STATUS_OLDEST(i)]);
+    printf(" pending %" PRIu32 ", flags %05" PRIX32 "\n", answer[CUONGPHEMI_STATUS_PENDING], b->record.fields.flags);
+}
+
+static void print_priority(const struct box *b)
+{
+    uint32_t word = b->record.fields.priority, outcome = CUONGPHEMI_TAKE(word, CUONGPHEMI_PRIORITY_OUTCOME);
+    printf("%s: priority by filter %" PRIu32 " of %s bits", b->name, CUONGPHEMI_TAKE(word, CUONGPHEMI_PRIORITY_FILTER),
+           CUONGPHEMI_TAKE(word, CUONGPHEMI_PRIORITY_LIST) ? "29" : "11");
+    if (outcome == CUONGPHEMI_PRIORITY_NO_FIFO)
+        printf(", not stored\n");
+    else if (outcome == CUONGPHEMI_PRIORITY_LOST)
+        printf(", lost\n");
+    else
+        printf(", in FIFO %d place %" PRIu32 "\n", outcome == CUONGPHEMI_PRIORITY_IN_FIFO1,
+               CUONGPHEMI_TAKE(word, CUONGPHEMI_PRIORITY_PLACE));
 }
 
 static void print_read(const struct box *b, const char *where, uint32_t number)
 {
     printf("%s: %s %" PRIu32 ": ", b->name, where, number);
-    print_frame(answer);
-    print_bytes(output, answer[9]);
-    printf(", time %" PRIu32, answer[7]);
-    print_filter(answer[8]);
+    print_frame(answer + CUONGPHEMI_READ_FRAME);
+    print_bytes(output, answer[CUONGPHEMI_READ_BYTES]);
+    printf(", time %" PRIu32, answer[CUONGPHEMI_READ_TIME]);
+    print_filter(answer[CUONGPHEMI_READ_ANMF] == CUONGPHEMI_NO, answer[CUONGPHEMI_READ_FILTER]);
     printf("\n");
 }
 
@@ -246,8 +312,9 @@ static void empty_fifo(struct box *b, uint32_t fifo)
 {
     for (;;) {
         must(b, "status", cuongphemi_status(BOX(b), ANSWER));
-        uint32_t oldest = answer[3 * fifo + 1];
-        if (answer[3 * fifo] == 0)
+        uint32_t ring = fifo == 0 ? CUONGPHEMI_RING_FIFO0 : CUONGPHEMI_RING_FIFO1;
+        uint32_t oldest = answer[CUONGPHEMI_STATUS_OLDEST(ring)];
+        if (answer[CUONGPHEMI_STATUS_FILL(ring)] == 0)
             return;
         must(b, "read", cuongphemi_read_fifo(BOX(b), fifo, oldest, OUTPUT, ANSWER));
         print_read(b, fifo == 0 ? "reads FIFO 0 place" : "reads FIFO 1 place", oldest);
@@ -258,7 +325,7 @@ static void empty_fifo(struct box *b, uint32_t fifo)
 static void empty_buffer(struct box *b, uint32_t buffer)
 {
     uint32_t number = cuongphemi_read_buffer(BOX(b), buffer, OUTPUT, ANSWER);
-    if (number != 0) {
+    if (number != CUONGPHEMI_ACCEPTED) {
         refused(b, "read of an Rx buffer", number);
         return;
     }
@@ -270,16 +337,43 @@ static void empty_buffer(struct box *b, uint32_t buffer)
 static void empty_events(struct box *b)
 {
     must(b, "status", cuongphemi_status(BOX(b), ANSWER));
-    uint32_t held = answer[6], place = answer[7], size = b->state[CUONGPHEMI_TXEFC] >> 16 & 0x3F, last = 0;
+    uint32_t held = answer[CUONGPHEMI_STATUS_FILL(CUONGPHEMI_RING_EVENTS)];
+    uint32_t oldest = answer[CUONGPHEMI_STATUS_OLDEST(CUONGPHEMI_RING_EVENTS)];
+    uint32_t size = CUONGPHEMI_TAKE(b->state[CUONGPHEMI_REGISTER_TXEFC], CUONGPHEMI_TXEFC_COUNT), last = 0;
     for (uint32_t i = 0; i < held; i++) {
-        last = (place + i) % size;
+        last = (oldest + i) % size;
         must(b, "read of an event", cuongphemi_read_event(BOX(b), last, ANSWER));
         printf("%s: event %" PRIu32 ": ", b->name, last);
-        print_frame(answer);
-        printf(", marker %" PRIu32 ", type %" PRIu32 ", time %" PRIu32 "\n", answer[7], answer[8], answer[9]);
+        print_frame(answer + CUONGPHEMI_EVENT_FRAME);
+        printf(", marker %" PRIu32 ", %s, time %" PRIu32 "\n", answer[CUONGPHEMI_EVENT_MARKER],
+               answer[CUONGPHEMI_EVENT_TYPE] == CUONGPHEMI_EVENT_TYPE_SENT ? "sent" : "of another type",
+               answer[CUONGPHEMI_EVENT_TIME]);
     }
     if (held != 0)
         must(b, "acknowledge", cuongphemi_acknowledge_event(BOX(b), last));
+}
+
+/* ---- the interrupt: here it comes where the program calls it, in a box at any time */
+
+static void interrupt(struct box *b, uint32_t flags)
+{
+    cuongphemi_flags_raise(&b->own[b->raised_in], flags);
+}
+
+/* From here on the interrupt raises in the other record; the one that it left is returned. */
+static unsigned turn(struct box *b)
+{
+    unsigned left = b->raised_in;
+    b->raised_in = 1 - left;
+    return left;
+}
+
+/* What the interrupt raised comes into the box's record, between two calls, and nothing is masked. */
+static void merge(struct box *b, unsigned left)
+{
+    uint32_t flags = cuongphemi_flags_take(&b->own[left]);
+    cuongphemi_flags_raise(&b->record.fields, flags);
+    printf("%s: merges flags %05" PRIX32 "\n", b->name, flags);
 }
 
 /* ---- the two boxes */
@@ -287,67 +381,78 @@ static void empty_events(struct box *b)
 /* FD, 64 data bytes in FIFO 0 and in the Tx buffers, a shared FIFO; what no filter matches is discarded. */
 static void set_up_a(struct box *a)
 {
-    uint32_t registers[CUONGPHEMI_REGISTER_WORDS] = {0};
-    a->memory[0] = UINT32_C(1) << 27 | 0x200 << 16 | 0x2FF;  /* 200 to 2FF to FIFO 0 */
-    a->memory[1] = UINT32_C(7) << 27 | 0x300 << 16 | 1;      /* 300 to Rx buffer 1 */
-    a->memory[2] = UINT32_C(6) << 29 | 0x04000000;           /* 04000000 to 07FFFFFF with priority to FIFO 1 */
-    a->memory[3] = 0x07FFFFFF;
-    registers[CUONGPHEMI_SIDFC] = section(2, 0);
-    registers[CUONGPHEMI_XIDFC] = section(1, 2);
-    registers[CUONGPHEMI_RXF0C] = UINT32_C(2) << 24 | section(4, 16);  /* watermark 2 */
-    registers[CUONGPHEMI_RXF1C] = UINT32_C(1) << 31 | section(2, 100); /* overwrites */
-    registers[CUONGPHEMI_RXBC] = 120 << 2;
-    registers[CUONGPHEMI_RXESC] = 0x007;
-    registers[CUONGPHEMI_TXEFC] = section(4, 200);
-    registers[CUONGPHEMI_TXBC] = UINT32_C(2) << 24 | section(2, 300); /* two dedicated, two shared as a FIFO */
-    registers[CUONGPHEMI_TXESC] = 7;
-    registers[CUONGPHEMI_GFC] = 2 << 4 | 2 << 2;
-    registers[CUONGPHEMI_XIDAM] = 0x1FFFFFFF;
-    registers[CUONGPHEMI_RX_BUFFERS] = 2;
-    registers[CUONGPHEMI_FD_ON] = 1;
-    registers[CUONGPHEMI_RATE_SWITCH_ON] = 1;
+    const uint32_t registers[CUONGPHEMI_REGISTER_WORDS] = {
+        [CUONGPHEMI_REGISTER_SIDFC] = CUONGPHEMI_SIDFC(2, 0),
+        [CUONGPHEMI_REGISTER_XIDFC] = CUONGPHEMI_XIDFC(1, 2),
+        [CUONGPHEMI_REGISTER_RXF0C] = CUONGPHEMI_RXFC(CUONGPHEMI_FIFO_BLOCKS, 2, 4, 16),
+        [CUONGPHEMI_REGISTER_RXF1C] = CUONGPHEMI_RXFC(CUONGPHEMI_FIFO_OVERWRITES, 0, 2, 100),
+        [CUONGPHEMI_REGISTER_RXBC] = CUONGPHEMI_RXBC(120),
+        [CUONGPHEMI_REGISTER_RXESC] = CUONGPHEMI_RXESC(CUONGPHEMI_SIZE_64, CUONGPHEMI_SIZE_8, CUONGPHEMI_SIZE_8),
+        [CUONGPHEMI_REGISTER_TXEFC] = CUONGPHEMI_TXEFC(0, 4, 200),
+        [CUONGPHEMI_REGISTER_TXBC] = CUONGPHEMI_TXBC(CUONGPHEMI_SHARED_IS_FIFO, 2, 2, 300),
+        [CUONGPHEMI_REGISTER_TXESC] = CUONGPHEMI_TXESC(CUONGPHEMI_SIZE_64),
+        [CUONGPHEMI_REGISTER_GFC] = CUONGPHEMI_GFC(CUONGPHEMI_NO_MATCH_DISCARDED, CUONGPHEMI_NO_MATCH_DISCARDED,
+                                                   CUONGPHEMI_NO, CUONGPHEMI_NO),
+        [CUONGPHEMI_REGISTER_XIDAM] = CUONGPHEMI_XIDAM_RESET,
+        [CUONGPHEMI_REGISTER_RX_BUFFERS] = 2,
+        [CUONGPHEMI_REGISTER_FD_ON] = CUONGPHEMI_YES,
+        [CUONGPHEMI_REGISTER_RATE_SWITCH_ON] = CUONGPHEMI_YES,
+    };
+    /* 200 to 2FF to FIFO 0, 300 to Rx buffer 1; 04000000 to 07FFFFFF with priority to FIFO 1 */
+    a->memory[0] = CUONGPHEMI_FILTER_11(CUONGPHEMI_FILTER_RANGE, CUONGPHEMI_ACTION_FIFO0, 0x200, 0x2FF);
+    a->memory[1] = CUONGPHEMI_FILTER_11_TO_BUFFER(0x300, 1);
+    a->memory[2] = CUONGPHEMI_FILTER_29_FIRST(CUONGPHEMI_ACTION_PRIORITY_FIFO1, 0x04000000);
+    a->memory[3] = CUONGPHEMI_FILTER_29_SECOND(CUONGPHEMI_FILTER_RANGE, 0x07FFFFFF);
     start(a, registers);
 }
 
-/* FD without the rate switch, 8 data bytes everywhere, a queue. */
+/* FD without the rate switch, 8 data bytes everywhere, a queue; of what no filter matches, 29 bits go to FIFO 0. */
 static void set_up_b(struct box *b)
 {
-    uint32_t registers[CUONGPHEMI_REGISTER_WORDS] = {0};
-    b->memory[0] = UINT32_C(3) << 27 | 0x110 << 16 | 0x110; /* 110 rejected */
-    b->memory[1] = UINT32_C(1) << 27 | 0x100 << 16 | 0x1FF; /* 100 to 1FF to FIFO 0 */
-    registers[CUONGPHEMI_SIDFC] = section(2, 0);
-    registers[CUONGPHEMI_RXF0C] = section(2, 16);
-    registers[CUONGPHEMI_TXEFC] = section(1, 100);
-    registers[CUONGPHEMI_TXBC] = UINT32_C(1) << 30 | UINT32_C(3) << 24 | section(1, 200); /* one dedicated, three as a queue */
-    registers[CUONGPHEMI_GFC] = 2 << 4 | 2 << 2;
-    registers[CUONGPHEMI_XIDAM] = 0x1FFFFFFF;
-    registers[CUONGPHEMI_FD_ON] = 1;
+    const uint32_t registers[CUONGPHEMI_REGISTER_WORDS] = {
+        [CUONGPHEMI_REGISTER_SIDFC] = CUONGPHEMI_SIDFC(2, 0),
+        [CUONGPHEMI_REGISTER_RXF0C] = CUONGPHEMI_RXFC(CUONGPHEMI_FIFO_BLOCKS, 0, 2, 16),
+        [CUONGPHEMI_REGISTER_TXEFC] = CUONGPHEMI_TXEFC(0, 1, 100),
+        [CUONGPHEMI_REGISTER_TXBC] = CUONGPHEMI_TXBC(CUONGPHEMI_SHARED_IS_QUEUE, 3, 1, 200),
+        [CUONGPHEMI_REGISTER_GFC] = CUONGPHEMI_GFC(CUONGPHEMI_NO_MATCH_DISCARDED, CUONGPHEMI_NO_MATCH_TO_FIFO0,
+                                                   CUONGPHEMI_NO, CUONGPHEMI_NO),
+        [CUONGPHEMI_REGISTER_XIDAM] = CUONGPHEMI_XIDAM_RESET,
+        [CUONGPHEMI_REGISTER_FD_ON] = CUONGPHEMI_YES,
+    };
+    /* 110 rejected, else 100 to 1FF to FIFO 0 */
+    b->memory[0] = CUONGPHEMI_FILTER_11(CUONGPHEMI_FILTER_RANGE, CUONGPHEMI_ACTION_REJECT, 0x110, 0x110);
+    b->memory[1] = CUONGPHEMI_FILTER_11(CUONGPHEMI_FILTER_RANGE, CUONGPHEMI_ACTION_FIFO0, 0x100, 0x1FF);
     start(b, registers);
 }
 
 int main(void)
 {
     static struct box a = {.name = "A"}, b = {.name = "B"};
+    const uint32_t event = CUONGPHEMI_YES, no_event = CUONGPHEMI_NO;
 
     /* A box that was never started refuses. */
     must(&a, "never started", cuongphemi_never_started(a.state, CUONGPHEMI_STATE_WORDS));
+    must(&b, "never started", cuongphemi_never_started(b.state, CUONGPHEMI_STATE_WORDS));
     refused(&a, "status", cuongphemi_status(BOX(&a), ANSWER));
     set_up_a(&a);
     set_up_b(&b);
 
     /* Frames of both wait; the bus takes them by rank, A's shared FIFO in its order. */
-    request_dedicated(&a, 0, frame_of(0x120, 0, 0, 0, 3, 0x10), 7, 1);
-    request_shared(&a, frame_of(0x145, 0, 0, 1, 11, 0x20), 8, 1);
-    request_shared(&a, frame_of(0x110, 0, 0, 0, 1, 0x40), 0, 0);
-    request_shared(&a, frame_of(0x111, 0, 0, 0, 1, 0x41), 0, 0);
-    request_dedicated(&a, 0, frame_of(0x121, 0, 0, 0, 1, 0x50), 0, 0);
-    request_dedicated(&b, 0, frame_of(0x300, 0, 0, 0, 4, 0x60), 1, 1);
-    request_shared(&b, frame_of(0x04800123, 1, 0, 0, 2, 0x70), 2, 1);
-    request_shared(&b, frame_of(0x120, 0, 1, 0, 5, 0), 3, 0);
-    request_shared(&b, frame_of(0x2F0, 0, 0, 1, 9, 0x80), 4, 0);
+    request_dedicated(&a, 0, classic(0x120, 3, 0x10), 7, event);
+    request_shared(&a, fast(0x145, 11, 0x20), 8, event);
+    request_shared(&a, classic(0x110, 1, 0x40), 0, no_event);
+    request_shared(&a, classic(0x111, 1, 0x41), 0, no_event);
+    request_dedicated(&a, 0, classic(0x121, 1, 0x50), 0, no_event);
+    request_dedicated(&b, 0, classic(0x300, 4, 0x60), 1, event);
+    request_shared(&b, extended(0x04800123, 2, 0x70), 2, event);
+    request_shared(&b, remote(0x120, 5), 3, no_event);
+    request_shared(&b, fast(0x2F0, 9, 0x80), 4, no_event);
+    print_status(&a);
+    print_status(&b);
     bus(&a, &b);
 
     print_status(&a);
+    print_priority(&a);
     print_status(&b);
     empty_fifo(&a, 0);
     empty_fifo(&a, 1);
@@ -356,10 +461,10 @@ int main(void)
     empty_events(&b);
 
     /* Rx buffer 1 of A holds new data: it is locked until it is released. B's events have room for one. */
-    request_dedicated(&b, 0, frame_of(0x300, 0, 0, 0, 1, 0x90), 5, 1);
+    request_dedicated(&b, 0, classic(0x300, 1, 0x90), 5, event);
     bus(&a, &b);
     empty_buffer(&a, 1);
-    request_dedicated(&b, 0, frame_of(0x300, 0, 0, 0, 1, 0xA0), 6, 1);
+    request_dedicated(&b, 0, classic(0x300, 1, 0xA0), 6, event);
     bus(&a, &b);
     empty_buffer(&a, 1);
     empty_buffer(&a, 0);
@@ -367,37 +472,53 @@ int main(void)
 
     /* FIFO 1 of A overwrites its oldest, FIFO 0 of B loses what it has no room for. */
     for (uint8_t i = 0; i < 3; i++) {
-        request_shared(&b, frame_of(0x04800200 + i, 1, 0, 0, 1, (uint8_t)(0xB0 + i)), i, 0);
-        request_dedicated(&a, 1, frame_of(0x180 + i, 0, 0, 0, 1, (uint8_t)(0xC0 + i)), i, 0);
+        request_shared(&b, extended(0x04800200 + i, 1, (uint8_t)(0xB0 + i)), i, no_event);
+        request_dedicated(&a, 1, classic(0x180 + i, 1, (uint8_t)(0xC0 + i)), i, no_event);
         bus(&a, &b);
     }
     empty_fifo(&a, 1);
     empty_fifo(&b, 0);
 
+    /* B has no 29-bit filter: what none matches goes to its FIFO 0. */
+    request_dedicated(&a, 1, extended(0x05550055, 1, 0xD0), 0, no_event);
+    bus(&a, &b);
+    empty_fifo(&b, 0);
+
     /* A request is cancelled before it goes out, but not one in a shared FIFO. */
-    request_shared(&b, frame_of(0x222, 0, 0, 0, 0, 0), 0, 0);
+    request_shared(&b, classic(0x222, 0, 0), 0, no_event);
     must(&b, "cancel", cuongphemi_cancel(BOX(&b), 1));
-    request_shared(&a, frame_of(0x133, 0, 0, 0, 0, 0), 0, 0);
+    request_shared(&a, classic(0x133, 0, 0), 0, no_event);
     refused(&a, "cancel", cuongphemi_cancel(BOX(&a), 2));
     bus(&a, &b);
 
-    /* Flags are cleared by the call, or in place by interrupt code. */
+    /* Flags stay up until they are cleared, by the call or in place. */
     print_status(&a);
     must(&a, "clear", cuongphemi_clear_flags(BOX(&a), CUONGPHEMI_FLAG_SENT | CUONGPHEMI_FLAG_RX_BUFFER));
-    cuongphemi_flags_clear(&a.status.record, CUONGPHEMI_FLAG_EVENT_NEW);
-    cuongphemi_priority_put(&a.status.record, 0);
-    cuongphemi_flags_raise(&a.status.record, CUONGPHEMI_FLAG_CANCELLED);
+    print_status(&a);
+    cuongphemi_flags_clear(&a.record.fields, CUONGPHEMI_FLAGS_ALL);
+    cuongphemi_priority_put(&a.record.fields, 0);
+    print_status(&a);
+    print_priority(&a);
+
+    /* The interrupt's flags arrive: those from before a merge, and one that comes in its middle with the next. */
+    interrupt(&a, CUONGPHEMI_FLAG_SENT);
+    interrupt(&a, CUONGPHEMI_FLAG_RX_BUFFER);
+    unsigned left = turn(&a);
+    interrupt(&a, CUONGPHEMI_FLAG_CANCELLED);
+    merge(&a, left);
+    print_status(&a);
+    merge(&a, turn(&a));
     print_status(&a);
 
     /* Wrong values are told by numbers, and change nothing. */
-    refused(&a, "status with a short answer", cuongphemi_status(BOX(&a), answer, 15));
-    a.state[CUONGPHEMI_FD_ON] = 2;
+    refused(&a, "status with a short answer", cuongphemi_status(BOX(&a), answer, CUONGPHEMI_ANSWER_WORDS - 1));
+    a.state[CUONGPHEMI_REGISTER_FD_ON] = 2;
     refused(&a, "status with FD neither on nor off", cuongphemi_status(BOX(&a), ANSWER));
-    a.state[CUONGPHEMI_FD_ON] = 1;
+    a.state[CUONGPHEMI_REGISTER_FD_ON] = CUONGPHEMI_YES;
     refused(&a, "read of FIFO 2", cuongphemi_read_fifo(BOX(&a), 2, 0, OUTPUT, ANSWER));
-    cuongphemi_flags_raise(&a.status.record, UINT32_C(1) << 31);
-    refused(&a, "status with a flag that has no name", cuongphemi_status(BOX(&a), ANSWER));
-    cuongphemi_flags_clear(&a.status.record, UINT32_C(1) << 31);
+    cuongphemi_flags_raise(&a.record.fields, ~CUONGPHEMI_FLAGS_ALL);
+    refused(&a, "status with flags that have no name", cuongphemi_status(BOX(&a), ANSWER));
+    cuongphemi_flags_clear(&a.record.fields, ~CUONGPHEMI_FLAGS_ALL);
     print_status(&a);
     return 0;
 }
