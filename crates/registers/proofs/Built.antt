@@ -13,17 +13,26 @@ use lib.Arith.{digits-lt}
 use lib.Pow.{pow-pos, pow-mono, pow-add, high-ones, high, low}
 use Rattle.words.specs.Fields.{maskOf}
 use Rattle.words.proofs.Choices.{and-left, and-right, T-true}
-use Rattle.registers.specs.Kinds.{Field, field, Fit, Stand, Built}
-
-abbrev pub putAll : List Field → List ℕ → ℕ
-putAll [] ns = 0
-putAll (f ∷ fs) [] = 0
-putAll (f ∷ fs) (n ∷ ns) = n * 2 ^ f .1 + putAll fs ns
+use Rattle.registers.specs.Kinds.{Field, field, Fit, placed, Stand, Built}
 
 -- a test that antt computes: each field is below a bit, and the next below its lowest
 abbrev pub falling : ℕ → List Field → Bool
 falling top [] = true
 falling top (f ∷ fs) = ltb (f .0) top && leb (f .1) (f .0) && falling (f .1) fs
+
+pub record Falls (top : ℕ) (f : Field) (fs : List Field) : Type 0 where
+  pub below : f .0 < top
+  pub order : f .1 ≤ f .0
+  pub rest : T (falling (f .1) fs)
+
+falls : (top : ℕ) (f : Field) (fs : List Field) → T (falling top (f ∷ fs)) → Falls top f fs
+falls top f fs t =
+    let here = and-left (ltb (f .0) top && leb (f .1) (f .0)) (falling (f .1) fs) t in
+    record {
+      below = ltb-true (f .0) top (T-true _ (and-left (ltb (f .0) top) (leb (f .1) (f .0)) here));
+      order = leb-true (f .1) (f .0) (T-true _ (and-right (ltb (f .0) top) (leb (f .1) (f .0)) here));
+      rest = and-right (ltb (f .0) top && leb (f .1) (f .0)) (falling (f .1) fs) t;
+    }
 
 -- below a bit: the word, the mask of its fields, and the word is what the mask keeps of it
 pub record Kept (top w m : ℕ) : Type 0 where
@@ -68,40 +77,40 @@ lowest above wide k n h l =
     ∙ low (above * 2 ^ (wide - k)) k l
 
 all-kept : (top : ℕ) (fs : List Field) (ns : List ℕ) → T (falling top fs) → Fit fs ns
-    → Kept top (putAll fs ns) (maskOf fs)
+    → Kept top (placed fs ns) (maskOf fs)
 all-kept top [] ns t h = record { word = pow-pos top; mask = pow-pos top; kept = refl }
 all-kept top (f ∷ fs) [] t h = absurd h
 all-kept top (f ∷ fs) (n ∷ ns) t h =
-    let here = and-left (ltb (f .0) top && leb (f .1) (f .0)) (falling (f .1) fs) t in
-    let below = ltb-true (f .0) top (T-true _ (and-left (ltb (f .0) top) (leb (f .1) (f .0)) here)) in
-    let order = leb-true (f .1) (f .0) (T-true _ (and-right (ltb (f .0) top) (leb (f .1) (f .0)) here)) in
-    let wide : f .0 + 1 - f .1 + f .1 ≡ f .0 + 1 = omega arith in
-    let k = on-top (f .0 + 1 - f .1) (f .1) n (putAll fs ns) (maskOf fs) (h .0)
-    (all-kept (f .1) fs ns (and-right (ltb (f .0) top && leb (f .1) (f .0)) (falling (f .1) fs) t) (h .1)) in
-    lifted (f .0 + 1) top _ _ (omega arith)
-    (subst (λ (x : ℕ). Kept x (n * 2 ^ f .1 + putAll fs ns) (2 ^ x - 2 ^ f .1 + maskOf fs)) wide k)
+    let g = falls top f fs t in
+    let wide : f .0 + 1 - f .1 + f .1 ≡ f .0 + 1 = omega (arith, g .order) in
+    let k = on-top (f .0 + 1 - f .1) (f .1) n (placed fs ns) (maskOf fs) (h .0) (all-kept (f .1) fs ns (g .rest) (h .1)) in
+    lifted (f .0 + 1) top _ _ (omega (arith, g .below))
+    (subst (λ (x : ℕ). Kept x (n * 2 ^ f .1 + placed fs ns) (2 ^ x - 2 ^ f .1 + maskOf fs)) wide k)
 
 -- each field holds its number, whatever stands above them all
 all-stand : (top : ℕ) (fs : List Field) (ns : List ℕ) (above : ℕ) → T (falling top fs) → Fit fs ns
-    → Stand fs ns (above * 2 ^ top + putAll fs ns)
+    → Stand fs ns (above * 2 ^ top + placed fs ns)
 all-stand top [] ns above t h = tt
 all-stand top (f ∷ fs) [] above t h = absurd h
 all-stand top (f ∷ fs) (n ∷ ns) above t h =
-    let here = and-left (ltb (f .0) top && leb (f .1) (f .0)) (falling (f .1) fs) t in
-    let rest = and-right (ltb (f .0) top && leb (f .1) (f .0)) (falling (f .1) fs) t in
-    let below = ltb-true (f .0) top (T-true _ (and-left (ltb (f .0) top) (leb (f .1) (f .0)) here)) in
-    let order = leb-true (f .1) (f .0) (T-true _ (and-right (ltb (f .0) top) (leb (f .1) (f .0)) here)) in
-    let w = putAll fs ns in
-    let joined : above * 2 ^ top + (n * 2 ^ f .1 + w) ≡ (above * 2 ^ (top - f .1) + n) * 2 ^ f .1 + w =
-    ap (λ (x : ℕ). above * 2 ^ x + (n * 2 ^ f .1 + w)) (le-split (f .1) top (omega arith)) ∙ regroup above (top - f .1) (f .1) n w in (
-      ap (λ (x : ℕ). field f x) joined
-          ∙ ap (λ (x : ℕ). x % 2 ^ (f .0 + 1 - f .1)) (high (above * 2 ^ (top - f .1) + n) (f .1) (all-kept (f .1) fs ns rest (h .1) .word))
-          ∙ lowest above (top - f .1) (f .0 + 1 - f .1) n (omega arith) (h .0),
-      subst (Stand fs ns) (sym joined) (all-stand (f .1) fs ns (above * 2 ^ (top - f .1) + n) rest (h .1)),
+    let g = falls top f fs t in
+    let w = placed fs ns in
+    let up = top - f .1 in
+    let more = above * 2 ^ up + n in
+    let joined : above * 2 ^ top + (n * 2 ^ f .1 + w) ≡ more * 2 ^ f .1 + w =
+    ap (λ (x : ℕ). above * 2 ^ x + (n * 2 ^ f .1 + w)) (le-split (f .1) top (omega (arith, g .below, g .order)))
+    ∙ regroup above up (f .1) n w in
+    let front : field f (more * 2 ^ f .1 + w) ≡ n =
+    ap (λ (x : ℕ). x % 2 ^ (f .0 + 1 - f .1)) (high more (f .1) (all-kept (f .1) fs ns (g .rest) (h .1) .word))
+    ∙ lowest above up (f .0 + 1 - f .1) n (omega (arith, g .below, g .order)) (h .0) in (
+      ap (λ (x : ℕ). field f x) joined ∙ front,
+      subst (Stand fs ns) (sym joined) (all-stand (f .1) fs ns more (g .rest) (h .1)),
     )
 
-pub built : (fs : List Field) (ns : List ℕ) → T (falling 32 fs) → Fit fs ns → (w : ℕ) → w ≡ putAll fs ns → Built fs ns w
+pub built : (fs : List Field) (ns : List ℕ) → T (falling 32 fs) → Fit fs ns → (w : ℕ) → w ≡ placed fs ns
+    → Built fs ns w
 built fs ns t h w e = subst (Built fs ns) (sym e) (record {
-  fields = subst (Stand fs ns) (zero-add (putAll fs ns)) (all-stand 32 fs ns 0 t h);
+  word = refl;
+  fields = subst (Stand fs ns) (zero-add (placed fs ns)) (all-stand 32 fs ns 0 t h);
   named = eq-eqb _ _ (all-kept 32 fs ns t h .kept);
 })

@@ -1,5 +1,5 @@
 -- The fields of each register kind, each by one name, as document 01's table has them. Every other bit must be 0.
-use Prim.Native.Nat.{ℕ, _+_, _-_, _^_, _<_}
+use Prim.Native.Nat.{ℕ, _+_, _-_, _*_, _^_, _<_}
 use mathlib.Core.Path.{_≡_}
 use mathlib.Core.Bool.{Bool, true}
 use mathlib.Core.List.{List, [], _∷_}
@@ -29,6 +29,12 @@ Fit [] ns = Unit {0}
 Fit (f ∷ fs) [] = ⊥
 Fit (f ∷ fs) (n ∷ ns) = (n < 2 ^ (f .0 + 1 - f .1)) × Fit fs ns
 
+-- the word that has them there, and nothing else
+abbrev pub placed : List Field → List ℕ → ℕ
+placed [] ns = 0
+placed (f ∷ fs) [] = 0
+placed (f ∷ fs) (n ∷ ns) = n * 2 ^ f .1 + placed fs ns
+
 -- they stand there in a word
 abbrev pub Stand : List Field → List ℕ → ℕ → Type 0
 Stand [] ns w = Unit {0}
@@ -37,6 +43,7 @@ Stand (f ∷ fs) (n ∷ ns) w = (field f w ≡ n) × Stand fs ns w
 
 -- a word put together of the fields of its kind: each holds its number, and no other bit is set
 pub record Built (kind : List Field) (numbers : List ℕ) (w : ℕ) : Type 0 where
+  pub word : w ≡ placed kind numbers
   pub fields : Stand kind numbers w
   pub named : onlyNamed kind w ≡ true
 
