@@ -34,8 +34,7 @@ pub extern "C" fn cuongphemi_start(
 ) -> u32
     ensures { λ n. ⌜ returned n
         (lent (now (state .exit)) (now (recorded .exit)) (now (mem .entry)) (now (answer .exit)) [])
-        ≡ exported
-        (lent (now (state .entry)) (now (recorded .entry)) (now (mem .entry)) (now (answer .entry)) [])
+        ≡ exported (lent (now (state .entry)) (now (recorded .entry)) (now (mem .entry)) (now (answer .entry)) [])
         (start (now (registers .entry))) ⌝ }
 {
     engine_calls::start(state, recorded, mem, registers, answer)
@@ -54,8 +53,7 @@ pub extern "C" fn cuongphemi_receive(
 ) -> u32
     ensures { λ n. ⌜ returned n
         (lent (now (state .exit)) (now (recorded .exit)) (now (mem .exit)) (now (answer .exit)) [])
-        ≡ exported
-        (lent (now (state .entry)) (now (recorded .entry)) (now (mem .entry)) (now (answer .entry)) [])
+        ≡ exported (lent (now (state .entry)) (now (recorded .entry)) (now (mem .entry)) (now (answer .entry)) [])
         (receive (now (frame .entry)) (now (bytes .entry)) time) ⌝ }
 {
     receives::receive(state, recorded, mem, frame, bytes, time, answer)
@@ -91,8 +89,7 @@ pub extern "C" fn cuongphemi_acknowledge_fifo(
     place: u32,
 ) -> u32
     ensures { λ n. ⌜ returned n (lent (now (state .exit)) (now (recorded .entry)) (now (mem .entry)) [] [])
-        ≡ exported
-        (lent (now (state .entry)) (now (recorded .entry)) (now (mem .entry)) [] [])
+        ≡ exported (lent (now (state .entry)) (now (recorded .entry)) (now (mem .entry)) [] [])
         (acknowledgeFifo fifo place) ⌝ }
 {
     releases::acknowledge_fifo(state, recorded, mem, fifo, place)
@@ -126,8 +123,7 @@ pub extern "C" fn cuongphemi_release_buffer(
     buffer: u32,
 ) -> u32
     ensures { λ n. ⌜ returned n (lent (now (state .exit)) (now (recorded .entry)) (now (mem .entry)) [] [])
-        ≡ exported
-        (lent (now (state .entry)) (now (recorded .entry)) (now (mem .entry)) [] [])
+        ≡ exported (lent (now (state .entry)) (now (recorded .entry)) (now (mem .entry)) [] [])
         (releaseBuffer buffer) ⌝ }
 {
     releases::release_buffer(state, recorded, mem, buffer)
@@ -148,8 +144,7 @@ pub extern "C" fn cuongphemi_request_dedicated(
 ) -> u32
     ensures { λ n. ⌜ returned n
         (lent (now (state .exit)) (now (recorded .entry)) (now (mem .exit)) (now (answer .exit)) [])
-        ≡ exported
-        (lent (now (state .entry)) (now (recorded .entry)) (now (mem .entry)) (now (answer .entry)) [])
+        ≡ exported (lent (now (state .entry)) (now (recorded .entry)) (now (mem .entry)) (now (answer .entry)) [])
         (requestDedicated buffer (now (frame .entry)) (now (bytes .entry)) marker wish) ⌝ }
 {
     requests::request_dedicated(
@@ -179,8 +174,7 @@ pub extern "C" fn cuongphemi_request_shared(
 ) -> u32
     ensures { λ n. ⌜ returned n
         (lent (now (state .exit)) (now (recorded .entry)) (now (mem .exit)) (now (answer .exit)) [])
-        ≡ exported
-        (lent (now (state .entry)) (now (recorded .entry)) (now (mem .entry)) (now (answer .entry)) [])
+        ≡ exported (lent (now (state .entry)) (now (recorded .entry)) (now (mem .entry)) (now (answer .entry)) [])
         (requestShared (now (frame .entry)) (now (bytes .entry)) marker wish) ⌝ }
 {
     requests::request_shared(state, recorded, mem, frame, bytes, marker, wish, answer)
@@ -195,9 +189,7 @@ pub extern "C" fn cuongphemi_cancel(
     buffer: u32,
 ) -> u32
     ensures { λ n. ⌜ returned n (lent (now (state .exit)) (now (recorded .exit)) (now (mem .entry)) [] [])
-        ≡ exported
-        (lent (now (state .entry)) (now (recorded .entry)) (now (mem .entry)) [] [])
-        (cancel buffer) ⌝ }
+        ≡ exported (lent (now (state .entry)) (now (recorded .entry)) (now (mem .entry)) [] []) (cancel buffer) ⌝ }
 {
     cancels::cancel(state, recorded, mem, buffer)
 }
@@ -232,8 +224,7 @@ pub extern "C" fn cuongphemi_report_sent(
     time: u16,
 ) -> u32
     ensures { λ n. ⌜ returned n (lent (now (state .exit)) (now (recorded .exit)) (now (mem .exit)) [] [])
-        ≡ exported
-        (lent (now (state .entry)) (now (recorded .entry)) (now (mem .entry)) [] [])
+        ≡ exported (lent (now (state .entry)) (now (recorded .entry)) (now (mem .entry)) [] [])
         (reportSent buffer passive time) ⌝ }
 {
     c_choosing::report_sent(state, recorded, mem, buffer, passive, time)
@@ -250,8 +241,7 @@ pub extern "C" fn cuongphemi_read_event(
 ) -> u32
     ensures { λ n. ⌜ returned n
         (lent (now (state .entry)) (now (recorded .entry)) (now (mem .entry)) (now (answer .exit)) [])
-        ≡ exported
-        (lent (now (state .entry)) (now (recorded .entry)) (now (mem .entry)) (now (answer .entry)) [])
+        ≡ exported (lent (now (state .entry)) (now (recorded .entry)) (now (mem .entry)) (now (answer .entry)) [])
         (readEvent place) ⌝ }
 {
     event_calls::read_event(state, recorded, mem, place, answer)
@@ -266,8 +256,7 @@ pub extern "C" fn cuongphemi_acknowledge_event(
     place: u32,
 ) -> u32
     ensures { λ n. ⌜ returned n (lent (now (state .exit)) (now (recorded .entry)) (now (mem .entry)) [] [])
-        ≡ exported
-        (lent (now (state .entry)) (now (recorded .entry)) (now (mem .entry)) [] [])
+        ≡ exported (lent (now (state .entry)) (now (recorded .entry)) (now (mem .entry)) [] [])
         (acknowledgeEvent place) ⌝ }
 {
     event_calls::acknowledge_event(state, recorded, mem, place)
@@ -282,9 +271,7 @@ pub extern "C" fn cuongphemi_clear_flags(
     mask: u32,
 ) -> u32
     ensures { λ n. ⌜ returned n (lent (now (state .entry)) (now (recorded .exit)) (now (mem .entry)) [] [])
-        ≡ exported
-        (lent (now (state .entry)) (now (recorded .entry)) (now (mem .entry)) [] [])
-        (clearFlags mask) ⌝ }
+        ≡ exported (lent (now (state .entry)) (now (recorded .entry)) (now (mem .entry)) [] []) (clearFlags mask) ⌝ }
 {
     engine_calls::clear_flags(state, recorded, mem, mask)
 }
@@ -299,8 +286,7 @@ pub extern "C" fn cuongphemi_status(
 ) -> u32
     ensures { λ n. ⌜ returned n
         (lent (now (state .entry)) (now (recorded .entry)) (now (mem .entry)) (now (answer .exit)) [])
-        ≡ exported
-        (lent (now (state .entry)) (now (recorded .entry)) (now (mem .entry)) (now (answer .entry)) [])
+        ≡ exported (lent (now (state .entry)) (now (recorded .entry)) (now (mem .entry)) (now (answer .entry)) [])
         reportStatus ⌝ }
 {
     engine_calls::status(state, recorded, mem, answer)
