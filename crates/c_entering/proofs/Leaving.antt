@@ -1,20 +1,31 @@
 -- A call from C that returns another number than 0 leaves all that was lent.
 -- Assumes nothing.
-use Prim.Native.Nat.{ℕ}
-use mathlib.Core.Path.{_≡_, refl}
+use Prim.Native.Nat.{ℕ, _+_}
+use mathlib.Core.Path.{_≡_, refl, ap, _∙_}
 use mathlib.Core.Bool.{Bool, true, false, _&&_}
 use mathlib.Core.List.{List}
+use native.Mathlib.Nat.{zero-add}
+use native.Mathlib.Omega.{arith}
+use lib.ListN.{length, drop}
+use lib.Seq.{drop-append-seam}
 use Rattle.words.specs.Choice.{pick}
 use Rattle.words.specs.Rules.{Ruling, allowed, refused, settle}
+use Rattle.words.specs.Runs.{splice}
 use Rattle.shape.specs.Calls.{Says, refuses, answers}
 use Rattle.engine.specs.Calls.{World}
+use Rattle.engine.specs.Fitness.{unfit}
+use Rattle.engine.specs.States.{neverStarted}
+use Rattle.engine.specs.declared.state.State.{State}
+use Rattle.engine.proofs.Fits.{never-started-is-unfit}
 use Rattle.starting.specs.Starting.{start}
-use Rattle.c_words.specs.States.{plainRegisters, unpackRegisters}
-use Rattle.c_entering.specs.Entering.{Lent, Returned, returned, has, entryRuling, entering, sized, worldOf}
+use Rattle.c_words.specs.States.{plainRegisters, unpackRegisters, unpackState, packState}
+use Rattle.c_words.proofs.Inverse.{values-come-back}
+use Rattle.c_entering.specs.Entering.{Lent, lent, Returned, returned, has, entryRuling, entering, sized, worldOf}
 use Rattle.c_entering.specs.Entering.{saidIn, inWords}
 use Rattle.c_entering.specs.EngineCalls.{neverStartedCall, startIn, startInWords, startCall}
-use Rattle.c_entering.specs.Promises.{Leaves, LeavesButAnswer}
-use Rattle.c_entering.specs.Promises.{RefusalsLeaveAll, NeverStartedLeavesAll, StartLeavesAll}
+use Rattle.c_entering.specs.Promises.{Leaves, LeavesButNames}
+use Rattle.c_entering.specs.Promises.{RefusalsLeaveAll, NeverStartedLeavesAll, StartLeavesAll, RestOfAnswerStays}
+use Rattle.c_entering.specs.Promises.{NeverStartedIsUnfitInWords}
 
 module _ (l : Lent) where
   -- 100 and 101 do, and else the call decides
@@ -28,8 +39,9 @@ module _ (l : Lent) where
   said told w out (refuses n) f = refl
   said told w out (answers a) f = absurd (f refl)
 
-  started : (w : World) (sections : List ℕ) (says : Says (Unit {0})) → LeavesButAnswer l (startIn l w sections says)
-  started w sections (refuses n) f = refl
+  started : (w : World) (sections : List ℕ) (says : Says (Unit {0})) → LeavesButNames l (startIn l w sections says)
+  unfolding splice
+  started w sections (refuses n) f = (refl, refl)
   started w sections (answers u) f = absurd (f refl)
 
   written : (b : Bool) (r : Returned) → r .number ≡ 0 → Leaves l (pick b r (returned 100 l))
@@ -52,5 +64,29 @@ unfolding startCall entering startInWords
 start-leaves-all l registers =
     let o = start (worldOf l) (unpackRegisters registers) in
     let lengths = sized (l .state) (l .recorded) && (has registers 14 && has (l .answer) 16) in
-    shut l (LeavesButAnswer l) (λ n f. refl) (entryRuling lengths (plainRegisters registers)) (startInWords l o)
+    shut l (LeavesButNames l) (λ n f. (refl, refl)) (entryRuling lengths (plainRegisters registers)) (startInWords l o)
     (started l (o .world) (o .output) (o .says))
+
+-- ---- the words past an answer
+
+past-told : (l ws : List ℕ) → drop (length ws) (splice l 0 ws) ≡ drop (length ws) l
+unfolding splice
+past-told l ws = drop-append-seam ws (drop (0 + length ws) l) ∙ ap (λ (n : ℕ). drop n l) (zero-add (length ws))
+
+pub rest-of-answer-stays : RestOfAnswerStays
+unfolding inWords
+rest-of-answer-stays A l told o a e =
+    ap (λ (s : Says A). drop (length (told a)) (saidIn l told (o .world) (o .output) s .lent .answer)) e
+    ∙ past-told (l .answer) (told a)
+
+-- ---- a state that was never started
+
+pub never-started-is-unfit-in-words : NeverStartedIsUnfitInWords
+unfolding neverStartedCall
+never-started-is-unfit-in-words l e r words = go (has (l .state) 27) e
+  where
+    go : (b : Bool) → let made = returned 0 (lent (packState neverStarted) (l .recorded) (l .memory) (l .answer) (l .output)) in
+        pick b made (returned 100 l) .number ≡ 0
+        → unfit (unpackState (pick b made (returned 100 l) .lent .state)) r words ≡ true
+    go true e = ap (λ (s : State). unfit s r words) (values-come-back .state neverStarted) ∙ never-started-is-unfit r words
+    go false e = absurd (omega arith)

@@ -1,3 +1,5 @@
 pub mod Refusals
+pub mod Tables
 pub mod Steps
+pub mod Entry
 pub mod Runs

@@ -1,12 +1,12 @@
 -- A refusal has a number, and names sections in a start alone: of each row of the table.
 -- Assumes nothing.
-use Prim.Native.Nat.{ℕ}
+use Prim.Native.Nat.{ℕ, _<_}
 use mathlib.Core.Path.{_≡_, refl, sym, ap, _∙_}
 use mathlib.Core.Bool.{Bool, true, false, true≢false, _&&_}
 use mathlib.Core.List.{List, [], _∷_}
 use native.Mathlib.Omega.{arith}
-use borrow.Author.Tests.{eqb-false}
-use lib.Dec.{eqb}
+use borrow.Author.Tests.{ltb-true}
+use lib.Dec.{eqb, ltb}
 use Rattle.words.specs.Rules.{Ruling, allowed, refused, first}
 use Rattle.words.proofs.Choices.{and-both}
 use Rattle.words.proofs.Rulings.{refused-by}
@@ -23,26 +23,34 @@ use Rattle.handler.proofs.Exact.{refusals-are-exact}
 -- what is known of a refusal of a call of this number
 pub record Known (call : ℕ) (a : Refusal) : Type 0 where
   pub some : a .number ≡ 0 → ⊥
+  pub small : a .number < 100
   pub alone : eqb call 1 ≡ false → a ≡ plain (a .number)
 
 abbrev Row : ℕ → Ruling Refusal → Type 0
 Row call r = (a : Refusal) → r ≡ refused a → Known call a
 
+between : (n : ℕ) → ltb 0 n && ltb n 100 ≡ true → (0 < n) × (n < 100)
+between n z = let b = and-both (ltb 0 n) (ltb n 100) z in (ltb-true 0 n (b .0), ltb-true n 100 (b .1))
+
 -- a row of a number alone, and one of a start that names sections
-numbered : (g : Given) (n : ℕ) (calls : List ℕ) (t : Bool) → eqb n 0 ≡ false → Row (g .call) (row g n calls t)
+numbered : (g : Given) (n : ℕ) (calls : List ℕ) (t : Bool) → ltb 0 n && ltb n 100 ≡ true
+    → Row (g .call) (row g n calls t)
 numbered g n calls t z a e =
     let same = refused-by (isAmong (g .call) calls && t) (plain n) a e .1 in
     record {
-      some = λ q. eqb-false n 0 z (ap (λ (x : Refusal). x .number) same ∙ q);
+      some = λ q. omega (arith, between n z .0, ap (λ (x : Refusal). x .number) same);
+      small = omega (arith, between n z .1, ap (λ (x : Refusal). x .number) same);
       alone = λ f. sym same ∙ ap (λ (x : Refusal). plain (x .number)) same;
     }
 
-named : (g : Given) (c : Refusal) (t : Bool) → eqb (c .number) 0 ≡ false → Row (g .call) (naming g c (1 ∷ []) t)
+named : (g : Given) (c : Refusal) (t : Bool) → ltb 0 (c .number) && ltb (c .number) 100 ≡ true
+    → Row (g .call) (naming g c (1 ∷ []) t)
 named g c t z a e =
     let on = isAmong (g .call) (1 ∷ []) in
     let by = refused-by (on && t) c a e in
     record {
-      some = λ q. eqb-false (c .number) 0 z (ap (λ (x : Refusal). x .number) (by .1) ∙ q);
+      some = λ q. omega (arith, between (c .number) z .0, ap (λ (x : Refusal). x .number) (by .1));
+      small = omega (arith, between (c .number) z .1, ap (λ (x : Refusal). x .number) (by .1));
       alone = λ f.
           let off : on ≡ false = rw f in
           absurd (true≢false (sym (and-both on t (by .0) .0) ∙ off));

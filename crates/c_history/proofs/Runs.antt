@@ -1,31 +1,35 @@
 -- Calls from C, one after the other, are steps, one after the other.
 -- Assumes nothing.
-use Prim.Native.Nat.{ℕ}
-use mathlib.Core.Path.{_≡_, refl, sym, ap, _∙_}
-use mathlib.Core.Bool.{Bool, true, false}
+use Prim.Native.Nat.{ℕ, _<_}
+use mathlib.Core.Path.{_≡_, refl, sym, ap, subst, _∙_}
+use mathlib.Core.Bool.{Bool, true, false, _||_}
 use mathlib.Core.List.{List, [], _∷_}
+use native.Mathlib.Omega.{arith}
+use borrow.Author.Tests.{ne-eqb}
+use lib.Dec.{eqb}
 use Rattle.words.specs.Choice.{pick}
-use Rattle.words.specs.Rules.{Ruling, allowed, refused, isAllowed, settle}
+use Rattle.words.proofs.Choices.{pick-second}
 use Rattle.shape.specs.Calls.{Says, refuses, answers}
-use Rattle.shape.specs.Histories.{after}
+use Rattle.shape.specs.Histories.{Told, told, trace, after}
 use Rattle.shape.specs.Refusals.{Refusal}
 use Rattle.engine.specs.Calls.{World, world, Outcome}
-use Rattle.books.specs.Lists.{Each}
+use Rattle.books.specs.Lists.{tally, Each}
 use Rattle.handler.specs.Calls.{Call, Answer, step}
 use Rattle.handler.proofs.Exact.{refusals-are-exact}
-use Rattle.history.specs.Demand3.{InTypes}
+use Rattle.history.specs.Demand3.{InTypes, Made, isStarted}
 use Rattle.history.proofs.Vanishing.{nothing-vanishes}
 use Rattle.c_words.specs.States.{unpackState, packState, unpackRecord, packRecord}
 use Rattle.c_words.proofs.Inverse.{values-come-back}
-use Rattle.c_entering.specs.Entering.{Lent, Returned, returned, entryRuling, entering, worldOf, saidIn, inWords}
+use Rattle.c_entering.specs.Entering.{Lent, Returned, worldOf, saidIn, inWords}
 use Rattle.c_entering.specs.EngineCalls.{startIn, startInWords}
 use Rattle.c_calls.specs.Exported.{FromC, exported, start, receive, readFifo, acknowledgeFifo, readBuffer, releaseBuffer}
 use Rattle.c_calls.specs.Exported.{requestDedicated, requestShared, cancel, askChoice, reportSent, readEvent}
 use Rattle.c_calls.specs.Exported.{acknowledgeEvent, clearFlags, reportStatus}
-use Rattle.c_history.specs.Steps.{callOf, haveLengths, saySo, isLetIn, stepInWords}
-use Rattle.c_history.specs.Runs.{Made, lentTo, made, leftBy, callsOf}
+use Rattle.c_history.specs.Steps.{callOf, stepInWords, toldIn}
+use Rattle.c_history.specs.Runs.{Lending, lentTo, gets, turnedAway, callsOf}
 use Rattle.c_history.specs.Promises.{CallsFromCAreARun, NothingVanishesFromC}
-use Rattle.c_history.proofs.Steps.{exported-is-step}
+use Rattle.c_history.proofs.Entry.{entry-cases}
+use Rattle.c_history.proofs.Steps.{words-tell-the-answer}
 
 -- ---- the world that stands in the words after a call
 
@@ -75,51 +79,82 @@ module _ (l : Lent) where
   step-world (clearFlags mask) o h = said-world _ o h
   step-world reportStatus o h = said-world _ o h
 
-  -- 100 and 101 leave the words; else it is the step's
-  next-world : (c : FromC)
-      → worldOf (exported l c .lent)
-      ≡ pick (isLetIn l c) (step (worldOf l) (callOf (l .output) c) .world) (worldOf l)
-  unfolding entering
-  next-world c =
-      let call = callOf (l .output) c in
-      let o = step (worldOf l) call in
-      let stays : Stays (worldOf l) o =
-      λ n e. ap (λ (p : Outcome (Answer call)). p .world) (refusals-are-exact (worldOf l) call .stays n e) in
-      ap (λ (r : Returned). worldOf (r .lent)) (exported-is-step l c)
-      ∙ go (entryRuling (haveLengths l c) (saySo (l .state) c)) (stepInWords l c o) (o .world) (step-world c o stays)
-    where
-      go : (v : Ruling ℕ) (r : Returned) (w : World) → worldOf (r .lent) ≡ w
-          → worldOf (settle v r (λ n. returned n l) .lent) ≡ pick (isAllowed v) w (worldOf l)
-      go allowed r w e = e
-      go (refused n) r w e = refl
+-- ---- 100 and 101 leave the words; else it is the step
+
+pub record Next (l : Lent) (c : FromC) (r : Returned) : Type 0 where
+  pub world : worldOf (r .lent)
+      ≡ pick (turnedAway r) (worldOf l) (step (worldOf l) (callOf (l .output) c) .world)
+  pub told : turnedAway r ≡ false
+      → toldIn (l .output) c r ≡ told (step (worldOf l) (callOf (l .output) c))
+
+let-through : (n : ℕ) → n < 100 → (eqb n 100 || eqb n 101) ≡ false
+let-through n h = rw (ne-eqb n 100 (λ e. omega arith), ne-eqb n 101 (λ e. omega arith))
+
+next : (l : Lent) (c : FromC) → Next l c (exported l c)
+next l c =
+    let call = callOf (l .output) c in
+    let o = step (worldOf l) call in
+    let stays : Stays (worldOf l) o =
+    λ n e. ap (λ (p : Outcome (Answer call)). p .world) (refusals-are-exact (worldOf l) call .stays n e) in
+    entry-cases l c (Next l c)
+    (λ e. record { world = refl; told = λ q. let z : _≡_ {A = ℕ} 0 1 = cc in absurd (omega arith) })
+    (λ e f. record { world = refl; told = λ q. let z : _≡_ {A = ℕ} 0 1 = cc in absurd (omega arith) })
+    (λ e f r same small. record {
+      world =
+          ap (λ (x : Returned). worldOf (x .lent)) same ∙ step-world l c o stays
+          ∙ sym (pick-second (worldOf l) (o .world) (let-through (r .number) small));
+      told = λ q. ap (toldIn (l .output) c) same ∙ words-tell-the-answer l c;
+    })
 
 -- ---- one after the other
 
-after-one : (b : Bool) (w : World) (c : Call) (cs : List Call)
-    → after step (pick b (step w c .world) w) cs ≡ after step w (pick b (c ∷ cs) cs)
-after-one true w c cs = refl
-after-one false w c cs = refl
+module _ (w : World) (c : Call) where
+  after-one : (b : Bool) (cs : List Call)
+      → after step (pick b w (step w c .world)) cs ≡ after step w (pick b cs (c ∷ cs))
+  after-one true cs = refl
+  after-one false cs = refl
+
+  trace-one : (b : Bool) (t : Told (Answer c)) (cs : List Call) → (b ≡ false → t ≡ told (step w c))
+      → pick b (trace step (pick b w (step w c .world)) cs) ((c, t) ∷ trace step (pick b w (step w c .world)) cs)
+      ≡ trace step w (pick b cs (c ∷ cs))
+  trace-one true t cs h = refl
+  trace-one false t cs h =
+      ap (λ (x : Told (Answer c)). noted x) (h refl)
+    where
+      noted : Told (Answer c) → List Made
+      noted x = (c, x) ∷ trace step (step w c .world) cs
 
 pub calls-from-c-are-a-run : CallsFromCAreARun
-calls-from-c-are-a-run box [] = refl
+calls-from-c-are-a-run box [] = record { world = refl; history = refl }
 calls-from-c-are-a-run box (m ∷ ms) =
-    let rest = callsOf (made box m .lent) ms in
+    let r = gets box m in
+    let rest = callsOf (r .lent) ms in
     let call = callOf (m .output) (m .call) in
-    calls-from-c-are-a-run (made box m .lent) ms
-    ∙ ap (λ (w : World). after step w rest) (next-world (lentTo box m) (m .call))
-    ∙ after-one (isLetIn (lentTo box m) (m .call)) (worldOf box) call rest
+    let t = toldIn (m .output) (m .call) r in
+    let away = turnedAway r in
+    let ih = calls-from-c-are-a-run (r .lent) ms in
+    let one = next (lentTo box m) (m .call) in
+    record {
+      world =
+          ih .world ∙ ap (λ (w : World). after step w rest) (one .world) ∙ after-one (worldOf box) call away rest;
+      history =
+          ap (λ (ts : List Made). pick away ts ((call, t) ∷ ts))
+          (ih .history ∙ ap (λ (w : World). trace step w rest) (one .world))
+          ∙ trace-one (worldOf box) call away t rest (one .told);
+    }
 
-each-one : (b : Bool) (c : Call) (cs : List Call) → InTypes c → Each InTypes cs → Each InTypes (pick b (c ∷ cs) cs)
-each-one true c cs h hs = (h, hs)
-each-one false c cs h hs = hs
+each-one : (b : Bool) (c : Call) (cs : List Call) → InTypes c → Each InTypes cs → Each InTypes (pick b cs (c ∷ cs))
+each-one true c cs h hs = hs
+each-one false c cs h hs = (h, hs)
 
-typed-calls : (box : Lent) (ms : List Made) → Each (λ (m : Made). InTypes (callOf (m .output) (m .call))) ms
+typed-calls : (box : Lent) (ms : List Lending) → Each (λ (m : Lending). InTypes (callOf (m .output) (m .call))) ms
     → Each InTypes (callsOf box ms)
 typed-calls box [] h = tt
 typed-calls box (m ∷ ms) h =
-    each-one (isLetIn (lentTo box m) (m .call)) (callOf (m .output) (m .call)) (callsOf (made box m .lent) ms) (h .0)
-    (typed-calls (made box m .lent) ms (h .1))
+    each-one (turnedAway (gets box m)) (callOf (m .output) (m .call)) (callsOf (gets box m .lent) ms) (h .0)
+    (typed-calls (gets box m .lent) ms (h .1))
 
 pub nothing-vanishes-from-c : NothingVanishesFromC
 nothing-vanishes-from-c box ms typed some =
-    nothing-vanishes (worldOf box) (callsOf box ms) (typed-calls box ms typed) some
+    nothing-vanishes (worldOf box) (callsOf box ms) (typed-calls box ms typed)
+    (subst (λ (ts : List Made). 0 < tally isStarted ts) (calls-from-c-are-a-run box ms .history) some)

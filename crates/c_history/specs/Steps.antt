@@ -1,22 +1,24 @@
 -- A call from C seen through the packing: the call that its words mean, 100 and 101, its outcome in words and back.
 use Prim.Native.Nat.{ℕ}
 use mathlib.Core.Bool.{Bool, true, _&&_}
-use mathlib.Core.List.{List}
+use mathlib.Core.List.{List, [], _∷_}
 use lib.Dec.{eqb}
 use Rattle.words.specs.Choice.{pick}
-use Rattle.words.specs.Rules.{isAllowed}
-use Rattle.shape.specs.Calls.{Says, refuses, answers}
+use Rattle.words.specs.Runs.{part}
+use Rattle.shape.specs.Calls.{refuses, answers}
+use Rattle.shape.specs.Histories.{Told}
 use Rattle.shape.specs.Refusals.{Refusal, names}
 use Rattle.layout.specs.Verdict.{plain}
 use Rattle.engine.specs.Calls.{Outcome}
+use Rattle.starting.specs.Starting.{unreported}
 use Rattle.handler.specs.Calls as Handler
 use Rattle.handler.specs.Calls.{Call, given, Answer}
 use Rattle.c_words.specs.Words.{word, saysYes, isYesNo}
-use Rattle.c_words.specs.Frames.{plainFrame, unpackFrame, unpackRequest}
-use Rattle.c_words.specs.States.{plainRegisters, unpackRegisters}
+use Rattle.c_words.specs.Frames.{unpackFrame}
+use Rattle.c_words.specs.States.{unpackRegisters}
 use Rattle.c_answers.specs.Answers.{noWords, fateWords, readWords, bufferWords, choiceWords, eventWords, overviewWords}
 use Rattle.c_answers.specs.Back.{fateIn, readIn, bufferIn, choiceIn, eventIn, overviewIn}
-use Rattle.c_entering.specs.Entering.{Lent, Returned, has, entryRuling, sized, inWords}
+use Rattle.c_entering.specs.Entering.{Lent, Returned, has, inWords}
 use Rattle.c_entering.specs.EngineCalls.{startInWords}
 use Rattle.c_calls.specs.Exported.{FromC, start, receive, readFifo, acknowledgeFifo, readBuffer, releaseBuffer}
 use Rattle.c_calls.specs.Exported.{requestDedicated, requestShared, cancel, askChoice, reportSent, readEvent}
@@ -31,8 +33,9 @@ callOf out (acknowledgeFifo fifo place) = Handler.acknowledgeFifo fifo place
 callOf out (readBuffer buffer) = Handler.readBuffer buffer out
 callOf out (releaseBuffer buffer) = Handler.releaseBuffer buffer
 callOf out (requestDedicated buffer frame bytes marker wish) =
-    Handler.requestDedicated buffer (unpackRequest frame marker wish) bytes
-callOf out (requestShared frame bytes marker wish) = Handler.requestShared (unpackRequest frame marker wish) bytes
+    Handler.requestDedicated buffer (record { frame = unpackFrame frame; marker = marker; wish = saysYes wish }) bytes
+callOf out (requestShared frame bytes marker wish) =
+    Handler.requestShared (record { frame = unpackFrame frame; marker = marker; wish = saysYes wish }) bytes
 callOf out (cancel buffer) = Handler.cancel buffer
 callOf out (askChoice passive) = Handler.askChoice (saysYes passive) out
 callOf out (reportSent buffer passive time) = Handler.reportSent buffer (saysYes passive) time
@@ -43,49 +46,62 @@ callOf out reportStatus = Handler.reportStatus
 
 -- ---- 100 and 101
 
--- the call's own buffers, beside state and record, have their lengths
-abbrev pub ownLengths : List ℕ → FromC → Bool
-ownLengths answer (start registers) = has registers 14 && has answer 16
-ownLengths answer (receive frame bytes time) = has frame 7 && has answer 16
-ownLengths answer (readFifo fifo place) = has answer 16
-ownLengths answer (acknowledgeFifo fifo place) = true
-ownLengths answer (readBuffer buffer) = has answer 16
-ownLengths answer (releaseBuffer buffer) = true
-ownLengths answer (requestDedicated buffer frame bytes marker wish) = has frame 7 && has answer 16
-ownLengths answer (requestShared frame bytes marker wish) = has frame 7 && has answer 16
-ownLengths answer (cancel buffer) = true
-ownLengths answer (askChoice passive) = has answer 16
-ownLengths answer (reportSent buffer passive time) = true
-ownLengths answer (readEvent place) = has answer 16
-ownLengths answer (acknowledgeEvent place) = true
-ownLengths answer (clearFlags mask) = true
-ownLengths answer reportStatus = has answer 16
+-- the call's own buffers that have a length of their own, with it
+abbrev pub ownBuffers : List ℕ → FromC → List (List ℕ × ℕ)
+ownBuffers answer (start registers) = (registers, 14) ∷ (answer, 16) ∷ []
+ownBuffers answer (receive frame bytes time) = (frame, 7) ∷ (answer, 16) ∷ []
+ownBuffers answer (readFifo fifo place) = (answer, 16) ∷ []
+ownBuffers answer (acknowledgeFifo fifo place) = []
+ownBuffers answer (readBuffer buffer) = (answer, 16) ∷ []
+ownBuffers answer (releaseBuffer buffer) = []
+ownBuffers answer (requestDedicated buffer frame bytes marker wish) = (frame, 7) ∷ (answer, 16) ∷ []
+ownBuffers answer (requestShared frame bytes marker wish) = (frame, 7) ∷ (answer, 16) ∷ []
+ownBuffers answer (cancel buffer) = []
+ownBuffers answer (askChoice passive) = (answer, 16) ∷ []
+ownBuffers answer (reportSent buffer passive time) = []
+ownBuffers answer (readEvent place) = (answer, 16) ∷ []
+ownBuffers answer (acknowledgeEvent place) = []
+ownBuffers answer (clearFlags mask) = []
+ownBuffers answer reportStatus = (answer, 16) ∷ []
 
--- the words that say yes or no do so: the state's, but of a start the registers', and the call's own
-abbrev pub saySo : List ℕ → FromC → Bool
-saySo state (start registers) = plainRegisters registers
-saySo state (receive frame bytes time) = plainRegisters state && plainFrame frame
-saySo state (readFifo fifo place) = plainRegisters state && true
-saySo state (acknowledgeFifo fifo place) = plainRegisters state && true
-saySo state (readBuffer buffer) = plainRegisters state && true
-saySo state (releaseBuffer buffer) = plainRegisters state && true
-saySo state (requestDedicated buffer frame bytes marker wish) =
-    plainRegisters state && (isYesNo wish && plainFrame frame)
-saySo state (requestShared frame bytes marker wish) = plainRegisters state && (isYesNo wish && plainFrame frame)
-saySo state (cancel buffer) = plainRegisters state && true
-saySo state (askChoice passive) = plainRegisters state && isYesNo passive
-saySo state (reportSent buffer passive time) = plainRegisters state && isYesNo passive
-saySo state (readEvent place) = plainRegisters state && true
-saySo state (acknowledgeEvent place) = plainRegisters state && true
-saySo state (clearFlags mask) = plainRegisters state && true
-saySo state reportStatus = plainRegisters state && true
+abbrev pub buffersOf : Lent → FromC → List (List ℕ × ℕ)
+buffersOf l c = (l .state, 27) ∷ (l .recorded, 2) ∷ ownBuffers (l .answer) c
+
+-- the words of registers and of a frame that say yes or no
+abbrev pub switches : List ℕ → List ℕ → List ℕ
+switches ws more = word ws 12 ∷ word ws 13 ∷ more
+
+abbrev pub kinds : List ℕ → List ℕ
+kinds frame = word frame 1 ∷ word frame 2 ∷ word frame 3 ∷ word frame 4 ∷ word frame 5 ∷ []
+
+-- the words that say yes or no: of the state, but of a start of its registers, and the call's own
+abbrev pub yesNos : List ℕ → FromC → List ℕ
+yesNos state (start registers) = switches registers []
+yesNos state (receive frame bytes time) = switches state (kinds frame)
+yesNos state (readFifo fifo place) = switches state []
+yesNos state (acknowledgeFifo fifo place) = switches state []
+yesNos state (readBuffer buffer) = switches state []
+yesNos state (releaseBuffer buffer) = switches state []
+yesNos state (requestDedicated buffer frame bytes marker wish) = switches state (wish ∷ kinds frame)
+yesNos state (requestShared frame bytes marker wish) = switches state (wish ∷ kinds frame)
+yesNos state (cancel buffer) = switches state []
+yesNos state (askChoice passive) = switches state (passive ∷ [])
+yesNos state (reportSent buffer passive time) = switches state (passive ∷ [])
+yesNos state (readEvent place) = switches state []
+yesNos state (acknowledgeEvent place) = switches state []
+yesNos state (clearFlags mask) = switches state []
+yesNos state reportStatus = switches state []
+
+-- all of them are right
+abbrev pub every : {A : Type 0} → (A → Bool) → List A → Bool
+every p [] = true
+every p (x ∷ xs) = p x && every p xs
 
 abbrev pub haveLengths : Lent → FromC → Bool
-haveLengths l c = sized (l .state) (l .recorded) && ownLengths (l .answer) c
+haveLengths l c = every (λ b. has (b .0) (b .1)) (buffersOf l c)
 
--- it returns neither 100 nor 101
-abbrev pub isLetIn : Lent → FromC → Bool
-isLetIn l c = isAllowed (entryRuling (haveLengths l c) (saySo (l .state) c))
+abbrev pub sayYesOrNo : Lent → FromC → Bool
+sayYesOrNo l c = every isYesNo (yesNos (l .state) c)
 
 -- ---- an outcome in words, and back
 
@@ -124,10 +140,33 @@ answerIn out (acknowledgeEvent place) ws = tt
 answerIn out (clearFlags mask) ws = tt
 answerIn out reportStatus ws = overviewIn ws
 
+-- and the output: its bytes, or the sections that an accepted start reports behind its two names
+abbrev pub outputIn : FromC → Returned → List ℕ
+outputIn (start registers) r = pick (eqb (r .number) 0) (part 2 14 (r .lent .answer)) unreported
+outputIn (receive frame bytes time) r = []
+outputIn (readFifo fifo place) r = r .lent .output
+outputIn (acknowledgeFifo fifo place) r = []
+outputIn (readBuffer buffer) r = r .lent .output
+outputIn (releaseBuffer buffer) r = []
+outputIn (requestDedicated buffer frame bytes marker wish) r = []
+outputIn (requestShared frame bytes marker wish) r = []
+outputIn (cancel buffer) r = []
+outputIn (askChoice passive) r = r .lent .output
+outputIn (reportSent buffer passive time) r = []
+outputIn (readEvent place) r = []
+outputIn (acknowledgeEvent place) r = []
+outputIn (clearFlags mask) r = []
+outputIn reportStatus r = []
+
 -- the refusal of a number, with the sections that a start names in its two words
 abbrev pub refusalIn : Call → ℕ → List ℕ → Refusal
 refusalIn c n ws = pick (eqb (given c .call) 1) (names n (word ws 0) (word ws 1)) (plain n)
 
--- what the call said, from the number that it returned and the words told
-abbrev pub saysIn : (out : List ℕ) (c : FromC) → ℕ → List ℕ → Says (Answer (callOf out c))
-saysIn out c n ws = pick (eqb n 0) (answers (answerIn out c ws)) (refuses (refusalIn (callOf out c) n ws))
+-- all that the call told, from what it returned
+abbrev pub toldIn : (out : List ℕ) (c : FromC) → Returned → Told (Answer (callOf out c))
+toldIn out c r = record {
+  says =
+      pick (eqb (r .number) 0) (answers (answerIn out c (r .lent .answer)))
+      (refuses (refusalIn (callOf out c) (r .number) (r .lent .answer)));
+  output = outputIn c r;
+}

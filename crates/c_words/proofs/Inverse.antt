@@ -6,16 +6,18 @@ use mathlib.Core.Bool.{Bool, true, false, _&&_}
 use mathlib.Core.List.{List}
 use native.Mathlib.Omega.{arith}
 use borrow.Author.Tests.{ltb-true}
-use lib.ListN.{length}
+use lib.ListN.{length, take}
 use Rattle.words.specs.Runs.{run}
 use Rattle.words.proofs.Choices.{and-both}
 use Rattle.frame.specs.declared.Frame.{Frame}
+use Rattle.engine.specs.States.{emptyState}
 use Rattle.engine.specs.declared.state.State.{State}
 use Rattle.c_words.specs.Words.{word, yesNo, saysYes, isYesNo}
-use Rattle.c_words.specs.States.{plainRegisters, packState, unpackState, ComesBack, packRecord, unpackRecord}
+use Rattle.c_words.specs.States.{plainRegisters, unpackRegisters, packState, unpackState, ComesBack}
+use Rattle.c_words.specs.States.{packRecord, unpackRecord}
 use Rattle.c_words.specs.Needs.{StateWords}
 use Rattle.c_words.specs.Frames.{plainFrame, packFrame, unpackFrame}
-use Rattle.c_words.specs.Promises.{ValuesComeBack, WordsComeBack, RegistersComeFirst}
+use Rattle.c_words.specs.Promises.{ValuesComeBack, WordsComeBack, RegistersComeFirst, OneIsYes}
 use Rattle.c_words.proofs.Spelled.{spelled}
 
 -- a word of yes or no
@@ -138,5 +140,12 @@ words-come-back = record {
 }
 
 pub registers-come-first : RegistersComeFirst
-unfolding unpackState
-registers-come-first ws = refl
+unfolding packState run
+registers-come-first ws e plain =
+    let p = and-both (isYesNo (word ws 12)) (isYesNo (word ws 13)) plain in
+    let z : take 14 (packState (emptyState (unpackRegisters ws))) ≡ run (word ws) 0 14 =
+    cc (yes-forth (word ws 12) (p .0), yes-forth (word ws 13) (p .1)) in
+    z ∙ spelled-out ws 14 e
+
+pub one-is-yes : OneIsYes
+one-is-yes = (refl, refl)

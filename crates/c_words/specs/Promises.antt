@@ -1,13 +1,14 @@
 -- What is promised of packing: statements only.
 use Prim.Native.Nat.{ℕ, _^_, _<_}
 use mathlib.Core.Path.{_≡_}
-use mathlib.Core.Bool.{true}
+use mathlib.Core.Bool.{true, false}
 use mathlib.Core.List.{List}
-use lib.ListN.{length}
+use lib.ListN.{length, take}
 use Rattle.frame.specs.declared.Frame.{Frame}
+use Rattle.engine.specs.States.{emptyState}
 use Rattle.engine.specs.declared.state.State.{State}
 use Rattle.engine.specs.declared.state.Record.{Record}
-use Rattle.c_words.specs.Words.{word}
+use Rattle.c_words.specs.Words.{word, saysYes}
 use Rattle.c_words.specs.States.{plainRegisters, unpackRegisters, unpackState, packState, ComesBack}
 use Rattle.c_words.specs.States.{unpackRecord, packRecord}
 use Rattle.c_words.specs.Frames.{plainFrame, unpackFrame, packFrame}
@@ -28,6 +29,11 @@ pub record WordsComeBack : Type 0 where
   pub recorded : (ws : List ℕ) → length ws ≡ 2 → packRecord (unpackRecord ws) ≡ ws
   pub frame : (ws : List ℕ) → length ws ≡ 7 → plainFrame ws ≡ true → packFrame (unpackFrame ws) ≡ ws
 
--- a state's registers are its first words
+-- the registers that a start is given are the first words of the state that it leaves
 abbrev pub RegistersComeFirst : Type 0
-RegistersComeFirst = (ws : List ℕ) → unpackState ws .regs ≡ unpackRegisters ws
+RegistersComeFirst =
+    (ws : List ℕ) → length ws ≡ 14 → plainRegisters ws ≡ true → take 14 (packState (emptyState (unpackRegisters ws))) ≡ ws
+
+-- 1 is yes and 0 is no
+abbrev pub OneIsYes : Type 0
+OneIsYes = (saysYes 1 ≡ true) × (saysYes 0 ≡ false)

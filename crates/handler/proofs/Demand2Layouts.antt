@@ -8,14 +8,15 @@ use native.Mathlib.Omega.{arith}
 use lib.ListN.{length, getD}
 use Rattle.words.specs.Rules.{refused, first}
 use Rattle.shape.specs.Calls.{done, refuses}
-use Rattle.shape.specs.Refusals.{Refusal, names, Refusals}
-use Rattle.shape.proofs.Calls.{call-done, call-says, call-answers}
+use Rattle.shape.specs.Refusals.{Refusal, Refusals}
+use Rattle.shape.proofs.Calls.{call-done, call-refused, call-says, call-answers}
 use Rattle.registers.specs.declared.Registers.{Registers}
+use Rattle.layout.specs.Promises.{Refuses}
 use Rattle.layout.specs.Sections.{memoryWords, none, sectionsOf}
 use Rattle.layout.specs.Verdict.{rules, verdict}
 use Rattle.layout.specs.declared.sections.Section.{Section}
 use Rattle.layout.proofs.Accepted.{accepted-is-legal, verdict-rules}
-use Rattle.layout.proofs.Names.{count-names-first, end-names-first, overlap-names-first}
+use Rattle.layout.proofs.Exact.{verdicts-are-exact}
 use Rattle.layout.proofs.Table.{has-within, within-has, empty-or-some}
 use Rattle.engine.specs.Calls.{World, Outcome}
 use Rattle.starting.specs.Starting.{flat, unreported, starts}
@@ -64,6 +65,14 @@ module _ (w : World) (g : Registers) where
   turned a e =
       verdict-rules memoryWords g (length (w .memory)) ∙ call-says w unreported rows (starts w g) (first rows) refl a e
 
+  turns : (a : Refusal) → verdict memoryWords g (length (w .memory)) ≡ refused a → step w (start g) .says ≡ refuses a
+  turns a e =
+      ap (λ (o : Outcome (Unit {0})). o .says)
+      (call-refused w unreported rows (starts w g) a (sym (verdict-rules memoryWords g (length (w .memory))) ∙ e))
+
+  exact : Refuses (λ a. verdict memoryWords g (length (w .memory)) ≡ refused a) memoryWords g (length (w .memory))
+  exact = verdicts-are-exact memoryWords g (length (w .memory))
+
   output-is : step w (start g) .says ≡ done → step w (start g) .output ≡ flat (sectionsOf g)
   output-is e = ap (λ (o : Outcome (Unit {0})). o .output) (call-answers w unreported rows (starts w g) tt e .1)
 
@@ -79,7 +88,13 @@ module _ (w : World) (g : Registers) where
     );
     sections = λ e i h.
         rw (output-is e, flat-start (sectionsOf g) i, flat-words (sectionsOf g) i) (section-reported g i h);
-    count = λ i e. count-names-first memoryWords g (length (w .memory)) i (turned (names 12 i 7) e);
-    past = λ i e. end-names-first memoryWords g (length (w .memory)) i (turned (names 14 i 7) e);
-    pair = λ i j e. overlap-names-first memoryWords g (length (w .memory)) i j (turned (names 15 i j) e);
+    refused = record {
+      memory = (λ e. exact .memory .0 (turned _ e), λ h. turns _ (exact .memory .1 h));
+      bits = (λ e. exact .bits .0 (turned _ e), λ h. turns _ (exact .bits .1 h));
+      count = λ i. (λ e. exact .count i .0 (turned _ e), λ h. turns _ (exact .count i .1 h));
+      together = (λ e. exact .together .0 (turned _ e), λ h. turns _ (exact .together .1 h));
+      past = λ i. (λ e. exact .past i .0 (turned _ e), λ h. turns _ (exact .past i .1 h));
+      pair = λ i j. (λ e. exact .pair i j .0 (turned _ e), λ h. turns _ (exact .pair i j .1 h));
+      only = λ a e. exact .only a (turned a e);
+    };
   }

@@ -10,7 +10,6 @@ use Rattle.words.specs.Bits.{bit, howMany}
 use Rattle.words.specs.Runs.{splice}
 use Rattle.ring.specs.Rings.{putPlace}
 use Rattle.shape.specs.Calls.{Says, refuses, answers, done, outcome}
-use Rattle.shape.specs.Refusals.{names}
 use Rattle.registers.specs.Fields.{fifoCode, fifoSize, overwrites, bufferCode, txCount}
 use Rattle.registers.specs.declared.Registers.{Registers}
 use Rattle.frame.specs.Arbitration.{Wins, bitsOf}
@@ -19,7 +18,7 @@ use Rattle.frame.specs.declared.Frame.{Frame}
 use Rattle.frame.specs.declared.Matched.{Matched}
 use Rattle.frame.specs.declared.Matched.the-variants.{Nothing, Filter}
 use Rattle.layout.specs.Legal.{Has, Legal}
-use Rattle.layout.specs.Promises.{FirstOver, FirstPast, FirstPair}
+use Rattle.layout.specs.Promises.{Refuses}
 use Rattle.layout.specs.Sections.{memoryWords}
 use Rattle.element.specs.Fitting.{anmfOf, indexOf}
 use Rattle.element.specs.Promises.{AreBytes}
@@ -54,10 +53,8 @@ pub record Starts (w : World) (g : Registers) : Type 0 where
   -- words 2i and 2i + 1 of the output report section i
   pub sections : step w (start g) .says ≡ done → (i : ℕ) → i < 7 → let out = step w (start g) .output in
       Reported g i (getD out (2 * i) 0) (getD out (2 * i + 1) 0)
-  -- the section or pair that a refusal names is the first
-  pub count : (i : ℕ) → step w (start g) .says ≡ refuses (names 12 i 7) → FirstOver g i
-  pub past : (i : ℕ) → step w (start g) .says ≡ refuses (names 14 i 7) → FirstPast g (length (w .memory)) i
-  pub pair : (i j : ℕ) → step w (start g) .says ≡ refuses (names 15 i j) → FirstPair g i j
+  -- when each refusal is given, exactly, and which sections it names
+  pub refused : Refuses (λ a. step w (start g) .says ≡ refuses a) memoryWords g (length (w .memory))
 
 -- ---- received frames: the first filter that matches decides, else the no-match rule; of the memory that one element
 -- changes and nothing else

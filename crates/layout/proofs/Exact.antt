@@ -20,7 +20,7 @@ use Rattle.layout.specs.Sections.{none, sectionsOf}
 use Rattle.layout.specs.Verdict.{plain, over, firstWith, end, past, shares, partner, hasPartner, pairRule}
 use Rattle.layout.specs.Verdict.{rules, verdict}
 use Rattle.layout.specs.Legal.{Named, Has}
-use Rattle.layout.specs.Promises.{FirstTooMany, FirstPast, FirstPair, Refuses, VerdictsAreExact}
+use Rattle.layout.specs.Promises.{FirstTooMany, FirstPast, FirstPair, VerdictsAreExact}
 use Rattle.layout.specs.declared.sections.Section.{Section}
 use Rattle.layout.proofs.Says.{found-with}
 use Rattle.layout.proofs.Table.{Within, has-within, within-has}

@@ -18,7 +18,7 @@ use Rattle.registers.specs.Given.{allNamed}
 use Rattle.registers.specs.declared.Registers.{Registers}
 use Rattle.layout.specs.Sections.{none, sectionsOf}
 use Rattle.layout.specs.Verdict.{plain, over, firstWith, end, past, shares, partner, hasPartner, rules, verdict}
-use Rattle.layout.specs.Promises.{CountNamesFirst, EndNamesFirst, OverlapNamesFirst}
+use Rattle.layout.specs.Promises.{FirstPast, FirstPair}
 use Rattle.layout.proofs.Table.{Within, has-within, within-has, empty-or-some}
 use Rattle.layout.proofs.Accepted.{apart-words, shared-word, no-partner, verdict-rules}
 
@@ -76,12 +76,8 @@ first-fault n fault i e =
       before = λ j h. least-below fault 0 7 j (omega arith) (omega arith);
     }
 
-pub count-names-first : CountNamesFirst
-count-names-first given r words i e =
-    let f = first-fault 12 (over r) i (rule-of given r words 2 (names 12 i 7) refl e) in
-    record { section = f .inside; here = f .here; before = f .before }
-
-pub end-names-first : EndNamesFirst
+pub end-names-first : (given : ℕ) (r : Registers) (words i : ℕ) → verdict given r words ≡ refused (names 14 i 7)
+    → FirstPast r words i
 end-names-first given r words i e =
     let ss = sectionsOf r in
     let f = first-fault 14 (past words ss) i (rule-of given r words 4 (names 14 i 7) refl e) in
@@ -103,7 +99,8 @@ end-names-first given r words i e =
 abbrev other : Refusal → ℕ
 other a = a .other
 
-pub overlap-names-first : OverlapNamesFirst
+pub overlap-names-first : (given : ℕ) (r : Registers) (words i j : ℕ)
+    → verdict given r words ≡ refused (names 15 i j) → FirstPair r i j
 unfolding partner
 overlap-names-first given r words i j e =
     let ss = sectionsOf r in

@@ -1,13 +1,12 @@
 -- What is promised of the verdict (demand 2, layouts): statements only.
 use Prim.Native.Nat.{ℕ, _+_, _≤_, _<_}
 use mathlib.Core.Path.{_≡_}
-use mathlib.Core.Bool.{true, false}
 use mathlib.Core.Logic.{_↔_, _⊎_}
 use Rattle.words.specs.Rules.{allowed, refused}
 use Rattle.shape.specs.Refusals.{Refusal, names}
 use Rattle.registers.specs.Fields.{dedicated, shared}
 use Rattle.registers.specs.declared.Registers.{Registers}
-use Rattle.layout.specs.Verdict.{meaning, over, verdict}
+use Rattle.layout.specs.Verdict.{meaning, verdict}
 use Rattle.layout.specs.Legal.{Named, TooMany, WithinMost, Counted, Has, Legal}
 use Rattle.layout.specs.declared.check.Verdict.{Verdict}
 
@@ -15,37 +14,19 @@ use Rattle.layout.specs.declared.check.Verdict.{Verdict}
 abbrev pub AcceptedIsLegal : Type 0
 AcceptedIsLegal = (given : ℕ) (r : Registers) (words : ℕ) → (verdict given r words ≡ allowed) ↔ Legal given r words
 
--- the section that 12 names has a count over its most, and none before it has
-pub record FirstOver (r : Registers) (i : ℕ) : Type 0 where
-  pub section : i < 7
-  pub here : over r i ≡ true
-  pub before : (j : ℕ) → j < i → over r j ≡ false
-
-abbrev pub CountNamesFirst : Type 0
-CountNamesFirst =
-    (given : ℕ) (r : Registers) (words i : ℕ) → verdict given r words ≡ refused (names 12 i 7) → FirstOver r i
-
--- the section that 14 names has a word that is not in the memory, and none before it has
+-- a section has a word that is not in the memory, and none before it has
 pub record FirstPast (r : Registers) (words i : ℕ) : Type 0 where
   pub section : i < 7
   pub here : (k : ℕ) × (words ≤ k) × Has r i k
   pub before : (j k : ℕ) → j < i → Has r j k → k < words
 
-abbrev pub EndNamesFirst : Type 0
-EndNamesFirst =
-    (given : ℕ) (r : Registers) (words i : ℕ) → verdict given r words ≡ refused (names 14 i 7) → FirstPast r words i
-
--- the pair that 15 names shares a word; no pair with a lower first section does, nor one with a lower second
+-- a pair shares a word; no pair with a lower first section does, nor one with a lower second
 pub record FirstPair (r : Registers) (i j : ℕ) : Type 0 where
   pub order : i < j
   pub section : j < 7
   pub here : (k : ℕ) × Has r i k × Has r j k
   pub lower : (a b k : ℕ) → a < i → a < b → b < 7 → Has r a k → Has r b k → ⊥
   pub higher : (b k : ℕ) → i < b → b < j → Has r i k → Has r b k → ⊥
-
-abbrev pub OverlapNamesFirst : Type 0
-OverlapNamesFirst =
-    (given : ℕ) (r : Registers) (words i j : ℕ) → verdict given r words ≡ refused (names 15 i j) → FirstPair r i j
 
 -- a section has a count over its most, and none before it has
 pub record FirstTooMany (r : Registers) (i : ℕ) : Type 0 where
@@ -61,27 +42,27 @@ abbrev pub AllApart : Registers → Type 0
 AllApart r = (i j k : ℕ) → i < j → j < 7 → Has r i k → Has r j k → ⊥
 
 -- when each refusal is given, exactly, and which sections it names (7 for none): the lowest number that applies
-pub record Refuses (given : ℕ) (r : Registers) (words : ℕ) : Type 0 where
+pub record Refuses (Gives : Refusal → Type 0) (given : ℕ) (r : Registers) (words : ℕ) : Type 0 where
   -- 10: the memory is of another length
-  pub memory : (verdict given r words ≡ refused (names 10 7 7)) ↔ (words ≡ given → ⊥)
+  pub memory : Gives (names 10 7 7) ↔ (words ≡ given → ⊥)
   -- 11: it is not, and some bit that is not named is set
-  pub bits : (verdict given r words ≡ refused (names 11 7 7)) ↔ ((words ≡ given) × (Named r → ⊥))
+  pub bits : Gives (names 11 7 7) ↔ ((words ≡ given) × (Named r → ⊥))
   -- 12: neither, and i is the first section with a count over its most
   pub count : (i : ℕ)
-      → (verdict given r words ≡ refused (names 12 i 7)) ↔ ((words ≡ given) × Named r × FirstTooMany r i)
+      → Gives (names 12 i 7) ↔ ((words ≡ given) × Named r × FirstTooMany r i)
   -- 13: none of these, and the Tx buffers together are over 32
-  pub together : (verdict given r words ≡ refused (names 13 7 7))
+  pub together : Gives (names 13 7 7)
       ↔ ((words ≡ given) × Named r × WithinMost r × (32 < dedicated r + shared r))
   -- 14: none of these, and i is the first section with a word past the memory
   pub past : (i : ℕ)
-      → (verdict given r words ≡ refused (names 14 i 7))
+      → Gives (names 14 i 7)
       ↔ ((words ≡ given) × Named r × Counted r × FirstPast r words i)
   -- 15: none of these, and i and j are the first pair that shares a word
   pub pair : (i j : ℕ)
-      → (verdict given r words ≡ refused (names 15 i j))
+      → Gives (names 15 i j)
       ↔ ((words ≡ given) × Named r × Counted r × AllInside r words × FirstPair r i j)
   -- and no other refusal
-  pub only : (a : Refusal) → verdict given r words ≡ refused a
+  pub only : (a : Refusal) → Gives a
       → (a ≡ names 10 7 7)
       ⊎ (a ≡ names 11 7 7)
       ⊎ ((i : ℕ) × (a ≡ names 12 i 7))
@@ -90,7 +71,8 @@ pub record Refuses (given : ℕ) (r : Registers) (words : ℕ) : Type 0 where
       ⊎ ((i : ℕ) × (j : ℕ) × (a ≡ names 15 i j))
 
 abbrev pub VerdictsAreExact : Type 0
-VerdictsAreExact = (given : ℕ) (r : Registers) (words : ℕ) → Refuses given r words
+VerdictsAreExact =
+    (given : ℕ) (r : Registers) (words : ℕ) → Refuses (λ a. verdict given r words ≡ refused a) given r words
 
 -- no two answers of the code mean the same, so no second answer meets the contract
 abbrev pub OneAnswer : Type 0

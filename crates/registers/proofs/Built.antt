@@ -78,7 +78,8 @@ lowest above wide k n h l =
 
 all-kept : (top : ℕ) (fs : List Field) (ns : List ℕ) → T (falling top fs) → Fit fs ns
     → Kept top (placed fs ns) (maskOf fs)
-all-kept top [] ns t h = record { word = pow-pos top; mask = pow-pos top; kept = refl }
+all-kept top [] [] t h = record { word = pow-pos top; mask = pow-pos top; kept = refl }
+all-kept top [] (n ∷ ns) t h = absurd h
 all-kept top (f ∷ fs) [] t h = absurd h
 all-kept top (f ∷ fs) (n ∷ ns) t h =
     let g = falls top f fs t in
@@ -90,7 +91,8 @@ all-kept top (f ∷ fs) (n ∷ ns) t h =
 -- each field holds its number, whatever stands above them all
 all-stand : (top : ℕ) (fs : List Field) (ns : List ℕ) (above : ℕ) → T (falling top fs) → Fit fs ns
     → Stand fs ns (above * 2 ^ top + placed fs ns)
-all-stand top [] ns above t h = tt
+all-stand top [] [] above t h = tt
+all-stand top [] (n ∷ ns) above t h = absurd h
 all-stand top (f ∷ fs) [] above t h = absurd h
 all-stand top (f ∷ fs) (n ∷ ns) above t h =
     let g = falls top f fs t in

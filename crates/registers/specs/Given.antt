@@ -20,7 +20,7 @@ allNamed r =
     && onlyNamed gfc (r .gfc .word)
     && onlyNamed xidam (r .xidam .word)
 
--- the registers of these words, in the order of document 01's table, the number of Rx buffers after them
+-- the registers of these words, in the order of document 01's case A, the number of Rx buffers after them
 abbrev pub registersFrom : (ℕ → ℕ) → Bool → Bool → Registers
 registersFrom word fdon rateon = record {
   sidfc = record { word = word 0 };

@@ -1,4 +1,4 @@
--- The fields of each register kind, each by one name, as document 01's table has them. Every other bit must be 0.
+-- The fields of each register kind, each by one name, as document 01 has them, and a word put together of them.
 use Prim.Native.Nat.{ℕ, _+_, _-_, _*_, _^_, _<_}
 use mathlib.Core.Path.{_≡_}
 use mathlib.Core.Bool.{Bool, true}
@@ -25,7 +25,8 @@ bitOf b = pick b 1 0
 
 -- numbers that can stand in these fields, one for each
 abbrev pub Fit : List Field → List ℕ → Type 0
-Fit [] ns = Unit {0}
+Fit [] [] = Unit {0}
+Fit [] (n ∷ ns) = ⊥
 Fit (f ∷ fs) [] = ⊥
 Fit (f ∷ fs) (n ∷ ns) = (n < 2 ^ (f .0 + 1 - f .1)) × Fit fs ns
 
@@ -37,7 +38,8 @@ placed (f ∷ fs) (n ∷ ns) = n * 2 ^ f .1 + placed fs ns
 
 -- they stand there in a word
 abbrev pub Stand : List Field → List ℕ → ℕ → Type 0
-Stand [] ns w = Unit {0}
+Stand [] [] w = Unit {0}
+Stand [] (n ∷ ns) w = ⊥
 Stand (f ∷ fs) [] w = ⊥
 Stand (f ∷ fs) (n ∷ ns) w = (field f w ≡ n) × Stand fs ns w
 

@@ -60,7 +60,7 @@ impl Registers {
         )
     }
 
-    // The registers of these words, in the order of document 01's table, and after them the number of Rx buffers.
+    // The registers of these words, in the order of document 01's case A, and after them the number of Rx buffers.
     pub fn from_words(words: &[u32], fdon: bool, rateon: bool) -> Self
         requires { ⌜ 12 ≤ length (now words) ⌝ }
         ensures { λ r. ⌜ r ≡ registersFrom (λ i. getD (now (words .entry)) i 0) fdon rateon ⌝ }
