@@ -287,7 +287,7 @@ static void print_priority(const struct box *b)
 {
     uint32_t word = b->record.fields.priority, outcome = CUONGPHEMI_TAKE(word, CUONGPHEMI_PRIORITY_OUTCOME);
     printf("%s: priority by filter %" PRIu32 " of %s bits", b->name, CUONGPHEMI_TAKE(word, CUONGPHEMI_PRIORITY_FILTER),
-           CUONGPHEMI_TAKE(word, CUONGPHEMI_PRIORITY_LIST) ? "29" : "11");
+           CUONGPHEMI_TAKE(word, CUONGPHEMI_PRIORITY_LIST) == CUONGPHEMI_LIST_29 ? "29" : "11");
     if (outcome == CUONGPHEMI_PRIORITY_NO_FIFO)
         printf(", not stored\n");
     else if (outcome == CUONGPHEMI_PRIORITY_LOST)
@@ -312,12 +312,12 @@ static void empty_fifo(struct box *b, uint32_t fifo)
 {
     for (;;) {
         must(b, "status", cuongphemi_status(BOX(b), ANSWER));
-        uint32_t ring = fifo == 0 ? CUONGPHEMI_RING_FIFO0 : CUONGPHEMI_RING_FIFO1;
+        uint32_t ring = fifo == CUONGPHEMI_FIFO0 ? CUONGPHEMI_RING_FIFO0 : CUONGPHEMI_RING_FIFO1;
         uint32_t oldest = answer[CUONGPHEMI_STATUS_OLDEST(ring)];
         if (answer[CUONGPHEMI_STATUS_FILL(ring)] == 0)
             return;
         must(b, "read", cuongphemi_read_fifo(BOX(b), fifo, oldest, OUTPUT, ANSWER));
-        print_read(b, fifo == 0 ? "reads FIFO 0 place" : "reads FIFO 1 place", oldest);
+        print_read(b, fifo == CUONGPHEMI_FIFO0 ? "reads FIFO 0 place" : "reads FIFO 1 place", oldest);
         must(b, "acknowledge", cuongphemi_acknowledge_fifo(BOX(b), fifo, oldest));
     }
 }
@@ -401,8 +401,10 @@ static void set_up_a(struct box *a)
     /* 200 to 2FF to FIFO 0, 300 to Rx buffer 1; 04000000 to 07FFFFFF with priority to FIFO 1 */
     a->memory[0] = CUONGPHEMI_FILTER_11(CUONGPHEMI_FILTER_RANGE, CUONGPHEMI_ACTION_FIFO0, 0x200, 0x2FF);
     a->memory[1] = CUONGPHEMI_FILTER_11_TO_BUFFER(0x300, 1);
-    a->memory[2] = CUONGPHEMI_FILTER_29_FIRST(CUONGPHEMI_ACTION_PRIORITY_FIFO1, 0x04000000);
-    a->memory[3] = CUONGPHEMI_FILTER_29_SECOND(CUONGPHEMI_FILTER_RANGE, 0x07FFFFFF);
+    a->memory[2] = CUONGPHEMI_FILTER_29_FIRST(CUONGPHEMI_FILTER_RANGE, CUONGPHEMI_ACTION_PRIORITY_FIFO1, 0x04000000,
+                                              0x07FFFFFF);
+    a->memory[3] = CUONGPHEMI_FILTER_29_SECOND(CUONGPHEMI_FILTER_RANGE, CUONGPHEMI_ACTION_PRIORITY_FIFO1, 0x04000000,
+                                               0x07FFFFFF);
     start(a, registers);
 }
 
@@ -454,9 +456,9 @@ int main(void)
     print_status(&a);
     print_priority(&a);
     print_status(&b);
-    empty_fifo(&a, 0);
-    empty_fifo(&a, 1);
-    empty_fifo(&b, 0);
+    empty_fifo(&a, CUONGPHEMI_FIFO0);
+    empty_fifo(&a, CUONGPHEMI_FIFO1);
+    empty_fifo(&b, CUONGPHEMI_FIFO0);
     empty_events(&a);
     empty_events(&b);
 
@@ -476,13 +478,13 @@ int main(void)
         request_dedicated(&a, 1, classic(0x180 + i, 1, (uint8_t)(0xC0 + i)), i, no_event);
         bus(&a, &b);
     }
-    empty_fifo(&a, 1);
-    empty_fifo(&b, 0);
+    empty_fifo(&a, CUONGPHEMI_FIFO1);
+    empty_fifo(&b, CUONGPHEMI_FIFO0);
 
     /* B has no 29-bit filter: what none matches goes to its FIFO 0. */
     request_dedicated(&a, 1, extended(0x05550055, 1, 0xD0), 0, no_event);
     bus(&a, &b);
-    empty_fifo(&b, 0);
+    empty_fifo(&b, CUONGPHEMI_FIFO0);
 
     /* A request is cancelled before it goes out, but not one in a shared FIFO. */
     request_shared(&b, classic(0x222, 0, 0), 0, no_event);

@@ -18,16 +18,18 @@
  *     1. call cuongphemi_never_started on the state, before the first start;
  *     2. write the filter elements into the memory; the rest of it may be any words, and no start writes it;
  *     3. call cuongphemi_start with the registers.
- * Step 1 is not optional. With it every other call is refused (CUONGPHEMI_REFUSED_UNFIT) until a start is accepted.
- * Zeroed buffers do not serve for it: a zeroed state is what a start with all registers 0 leaves, a box without
- * filters, FIFOs and buffers, and the calls answer on it; each received frame is lost, for one. Words that were left
- * from elsewhere may be taken for a started box too.
+ * Step 1 is not optional. With it every other call, until a start is accepted, returns 20 (CUONGPHEMI_REFUSED_UNFIT),
+ * or 100 or 101, which are judged first. Zeroed buffers do not serve for it: a zeroed state is what a start with all
+ * registers 0 leaves, a box without filters, FIFOs and buffers and with FD off, and the calls answer on it; a received
+ * classic frame is lost, for one, and an FD frame is refused with 22. Words that were left from elsewhere may be taken
+ * for a started box too.
  *
  * The caller's duty. A buffer is a pointer and the number of its words or bytes. The pointer is not null, also with a
  * count of 0; it is aligned for its type; so many words or bytes stand behind it; and no buffer that a call may write
- * overlaps another of the same call. Every other wrong value is told by the number that the call returns. Two calls on
- * the same box are not made at the same time, nor one from an interrupt while another runs; "Interrupts", below, says
- * what an interrupt may do.
+ * overlaps another of the same call. Every other wrong argument is told by the number that the call returns, and so
+ * are a state and a record that do not fit. Nothing is told of the memory's words, which may be any, nor of a state or
+ * a record that was changed and is still a possible one. Two calls on the same box are not made at the same time, nor
+ * one from an interrupt while another runs; "Interrupts", below, says what an interrupt may do.
  */
 #ifndef CUONGPHEMI_H
 #define CUONGPHEMI_H
@@ -63,7 +65,8 @@ extern "C" {
 #define CUONGPHEMI_REFUSED_COUNT_OVER 12      /* a count is over its most; names the first such section */
 #define CUONGPHEMI_REFUSED_TX_OVER 13         /* dedicated and shared Tx buffers together are over 32 */
 #define CUONGPHEMI_REFUSED_PAST_MEMORY 14     /* a section ends past the memory; names the first such section */
-#define CUONGPHEMI_REFUSED_OVERLAP 15         /* two sections share a word; names the first such pair */
+#define CUONGPHEMI_REFUSED_OVERLAP 15         /* two sections share a word; names the first such pair, by
+                                                 its lower section, then by the other */
 /* of every call but a start */
 #define CUONGPHEMI_REFUSED_UNFIT 20           /* the state doesn't fit its registers, this memory or the record, or
                                                  was never started */
@@ -82,7 +85,9 @@ extern "C" {
 #define CUONGPHEMI_REFUSED_WRONG_OUTPUT 30    /* the output isn't 64 bytes */
 /* of every call, before its own numbers */
 #define CUONGPHEMI_REFUSED_WRONG_LENGTH 100   /* of state, record, registers, frame or answer */
-#define CUONGPHEMI_REFUSED_NOT_YES_OR_NO 101  /* a word that says yes or no is neither */
+#define CUONGPHEMI_REFUSED_NOT_YES_OR_NO 101  /* a word that says yes or no is neither: in the arguments or, but for a
+                                                 start, in the state (words 12 and 13), which is why a state that was
+                                                 never written often gives 101 and not 20 */
 
 /* A word that says yes or no. */
 #define CUONGPHEMI_NO 0
@@ -103,19 +108,22 @@ extern "C" {
  *
  * A field NAME stands in a word from bit NAME_SHIFT on, and NAME_MASK is its largest value. CUONGPHEMI_TAKE(word,
  * NAME) is the field's value in a word; CUONGPHEMI_PUT(value, NAME) is a word with that field alone, to be ORed with
- * others. A value over the field's largest makes it a word of ones, which as a register every start refuses
- * (CUONGPHEMI_REFUSED_UNNAMED_BIT). The macros of this header are constant where their arguments are, and may evaluate
- * an argument more than once.
+ * others. A value that does not fit, one over the field's largest or below 0, makes it a word of ones, which as a
+ * register every start refuses (CUONGPHEMI_REFUSED_UNNAMED_BIT). A value may have up to 64 bits, and
+ * CUONGPHEMI_FITS(value, NAME) says whether it fits. The macros of this header are constant where their arguments are,
+ * and may evaluate an argument more than once.
  */
 #define CUONGPHEMI_TAKE(word, name) ((uint32_t)(word) >> name##_SHIFT & name##_MASK)
+#define CUONGPHEMI_FITS(value, name) (((uint64_t)(value) & ~(uint64_t)name##_MASK) == 0)
 #define CUONGPHEMI_PUT(value, name) \
-    (((uint32_t)(value) & ~name##_MASK) != 0 ? UINT32_C(0xFFFFFFFF) : (uint32_t)(value) << name##_SHIFT)
+    (CUONGPHEMI_FITS(value, name) ? (uint32_t)(value) << name##_SHIFT : UINT32_C(0xFFFFFFFF))
 
 /*
  * ---- the registers: the words that a start is given
  *
  * Every bit that has no name must be 0. A section's start is its first word's number in the memory; where the count is
- * 0 it plays no part. Below each register: its fields, and a macro that makes the word of them.
+ * 0 it plays no part. Below each register: its fields, its named bits (NAMED: all its fields together), and a macro
+ * that makes the word of them. The words 11 to 13 have no fields.
  */
 #define CUONGPHEMI_REGISTER_SIDFC 0           /* 11-bit filters */
 #define CUONGPHEMI_REGISTER_XIDFC 1           /* 29-bit filters */
@@ -130,7 +138,7 @@ extern "C" {
 #define CUONGPHEMI_REGISTER_XIDAM 10          /* mask for 29-bit identifiers */
 #define CUONGPHEMI_REGISTER_RX_BUFFERS 11     /* how many Rx buffers, to CUONGPHEMI_RX_BUFFERS_MOST */
 #define CUONGPHEMI_REGISTER_FD_ON 12          /* yes or no; no: a received FD frame is refused, one to send goes out
-                                                 as classic */
+                                                 as classic: the DLC stays, at most 8 bytes, no BRS, no ESI */
 #define CUONGPHEMI_REGISTER_RATE_SWITCH_ON 13 /* yes or no; no: FD frames go out without BRS */
 
 /* The most that a start accepts of each. */
@@ -162,6 +170,7 @@ extern "C" {
 #define CUONGPHEMI_SIDFC_COUNT_MASK 0xFFu
 #define CUONGPHEMI_SIDFC_START_SHIFT 2
 #define CUONGPHEMI_SIDFC_START_MASK 0x3FFFu
+#define CUONGPHEMI_SIDFC_NAMED UINT32_C(0x00FFFFFC)
 #define CUONGPHEMI_SIDFC(count, start) \
     (CUONGPHEMI_PUT(count, CUONGPHEMI_SIDFC_COUNT) | CUONGPHEMI_PUT(start, CUONGPHEMI_SIDFC_START))
 
@@ -169,13 +178,15 @@ extern "C" {
 #define CUONGPHEMI_XIDFC_COUNT_MASK 0x7Fu
 #define CUONGPHEMI_XIDFC_START_SHIFT 2
 #define CUONGPHEMI_XIDFC_START_MASK 0x3FFFu
+#define CUONGPHEMI_XIDFC_NAMED UINT32_C(0x007FFFFC)
 #define CUONGPHEMI_XIDFC(count, start) \
     (CUONGPHEMI_PUT(count, CUONGPHEMI_XIDFC_COUNT) | CUONGPHEMI_PUT(start, CUONGPHEMI_XIDFC_START))
 
 /*
  * RXF0C and RXF1C, to 64 elements each. A full FIFO loses what arrives (CUONGPHEMI_FIFO_BLOCKS) or overwrites its
- * oldest (CUONGPHEMI_FIFO_OVERWRITES). The watermark is the fill at which the watermark flag rises, 1 to the count.
- * With 0, or with more than the count, the flag never rises; a start accepts that.
+ * oldest (CUONGPHEMI_FIFO_OVERWRITES). An overwrite is answered CUONGPHEMI_OUTCOME_IN_FIFO, and of the FIFO's flags it
+ * raises NEW alone, not LOST. The watermark is the fill at which the watermark flag rises, 1 to the count. With 0, or
+ * with more than the count, the flag never rises; a start accepts that.
  */
 #define CUONGPHEMI_FIFO_BLOCKS 0
 #define CUONGPHEMI_FIFO_OVERWRITES 1
@@ -187,6 +198,7 @@ extern "C" {
 #define CUONGPHEMI_RXFC_COUNT_MASK 0x7Fu
 #define CUONGPHEMI_RXFC_START_SHIFT 2
 #define CUONGPHEMI_RXFC_START_MASK 0x3FFFu
+#define CUONGPHEMI_RXFC_NAMED UINT32_C(0xFF7FFFFC)
 #define CUONGPHEMI_RXFC(overwrite, watermark, count, start) \
     (CUONGPHEMI_PUT(overwrite, CUONGPHEMI_RXFC_OVERWRITE) | CUONGPHEMI_PUT(watermark, CUONGPHEMI_RXFC_WATERMARK) \
      | CUONGPHEMI_PUT(count, CUONGPHEMI_RXFC_COUNT) | CUONGPHEMI_PUT(start, CUONGPHEMI_RXFC_START))
@@ -194,6 +206,7 @@ extern "C" {
 /* RXBC; their number is the word CUONGPHEMI_REGISTER_RX_BUFFERS. */
 #define CUONGPHEMI_RXBC_START_SHIFT 2
 #define CUONGPHEMI_RXBC_START_MASK 0x3FFFu
+#define CUONGPHEMI_RXBC_NAMED UINT32_C(0x0000FFFC)
 #define CUONGPHEMI_RXBC(start) CUONGPHEMI_PUT(start, CUONGPHEMI_RXBC_START)
 
 /* RXESC and TXESC, of size codes. */
@@ -203,12 +216,14 @@ extern "C" {
 #define CUONGPHEMI_RXESC_FIFO1_MASK 7u
 #define CUONGPHEMI_RXESC_RX_BUFFERS_SHIFT 8
 #define CUONGPHEMI_RXESC_RX_BUFFERS_MASK 7u
+#define CUONGPHEMI_RXESC_NAMED UINT32_C(0x00000777)
 #define CUONGPHEMI_RXESC(fifo0, fifo1, rx_buffers) \
     (CUONGPHEMI_PUT(fifo0, CUONGPHEMI_RXESC_FIFO0) | CUONGPHEMI_PUT(fifo1, CUONGPHEMI_RXESC_FIFO1) \
      | CUONGPHEMI_PUT(rx_buffers, CUONGPHEMI_RXESC_RX_BUFFERS))
 
 #define CUONGPHEMI_TXESC_SIZE_SHIFT 0
 #define CUONGPHEMI_TXESC_SIZE_MASK 7u
+#define CUONGPHEMI_TXESC_NAMED UINT32_C(0x00000007)
 #define CUONGPHEMI_TXESC(size) CUONGPHEMI_PUT(size, CUONGPHEMI_TXESC_SIZE)
 
 /* TXEFC, to 32 events; the watermark as that of an Rx FIFO. A full list loses the new event. */
@@ -218,13 +233,16 @@ extern "C" {
 #define CUONGPHEMI_TXEFC_COUNT_MASK 0x3Fu
 #define CUONGPHEMI_TXEFC_START_SHIFT 2
 #define CUONGPHEMI_TXEFC_START_MASK 0x3FFFu
+#define CUONGPHEMI_TXEFC_NAMED UINT32_C(0x3F3FFFFC)
 #define CUONGPHEMI_TXEFC(watermark, count, start) \
     (CUONGPHEMI_PUT(watermark, CUONGPHEMI_TXEFC_WATERMARK) | CUONGPHEMI_PUT(count, CUONGPHEMI_TXEFC_COUNT) \
      | CUONGPHEMI_PUT(start, CUONGPHEMI_TXEFC_START))
 
 /*
  * TXBC, to 32 buffers together. Dedicated buffers have the lowest numbers, the shared ones follow. Shared buffers are
- * a FIFO, whose oldest alone may go out, or a queue, of which any may.
+ * a FIFO, whose oldest alone may go out, or a queue, of which any may. A queue is not in order: of equal identifiers
+ * that in the lowest-numbered buffer goes first, so a newer request in a lower buffer that came free overtakes older
+ * ones. For messages of several frames the FIFO is right.
  */
 #define CUONGPHEMI_SHARED_IS_FIFO 0
 #define CUONGPHEMI_SHARED_IS_QUEUE 1
@@ -236,18 +254,19 @@ extern "C" {
 #define CUONGPHEMI_TXBC_DEDICATED_MASK 0x3Fu
 #define CUONGPHEMI_TXBC_START_SHIFT 2
 #define CUONGPHEMI_TXBC_START_MASK 0x3FFFu
+#define CUONGPHEMI_TXBC_NAMED UINT32_C(0x7F3FFFFC)
 #define CUONGPHEMI_TXBC(queue, shared, dedicated, start) \
     (CUONGPHEMI_PUT(queue, CUONGPHEMI_TXBC_QUEUE) | CUONGPHEMI_PUT(shared, CUONGPHEMI_TXBC_SHARED) \
      | CUONGPHEMI_PUT(dedicated, CUONGPHEMI_TXBC_DEDICATED) | CUONGPHEMI_PUT(start, CUONGPHEMI_TXBC_START))
 
 /*
  * GFC. A frame that no filter element matches goes to FIFO 0, to FIFO 1, or is discarded (ANFS for 11-bit identifiers,
- * ANFE for 29-bit ones; the value 3 discards too). Remote frames may all be rejected before the filters are asked
- * (RRFS and RRFE, yes or no).
+ * ANFE for 29-bit ones). Remote frames may all be rejected before the filters are asked (RRFS and RRFE, yes or no).
  */
 #define CUONGPHEMI_NO_MATCH_TO_FIFO0 0
 #define CUONGPHEMI_NO_MATCH_TO_FIFO1 1
 #define CUONGPHEMI_NO_MATCH_DISCARDED 2
+#define CUONGPHEMI_NO_MATCH_DISCARDED_TOO 3   /* the same as 2 */
 #define CUONGPHEMI_GFC_ANFS_SHIFT 4
 #define CUONGPHEMI_GFC_ANFS_MASK 3u
 #define CUONGPHEMI_GFC_ANFE_SHIFT 2
@@ -256,15 +275,19 @@ extern "C" {
 #define CUONGPHEMI_GFC_RRFS_MASK 1u
 #define CUONGPHEMI_GFC_RRFE_SHIFT 0
 #define CUONGPHEMI_GFC_RRFE_MASK 1u
+#define CUONGPHEMI_GFC_NAMED UINT32_C(0x0000003F)
 #define CUONGPHEMI_GFC(anfs, anfe, rrfs, rrfe) \
     (CUONGPHEMI_PUT(anfs, CUONGPHEMI_GFC_ANFS) | CUONGPHEMI_PUT(anfe, CUONGPHEMI_GFC_ANFE) \
      | CUONGPHEMI_PUT(rrfs, CUONGPHEMI_GFC_RRFS) | CUONGPHEMI_PUT(rrfe, CUONGPHEMI_GFC_RRFE))
 
 /*
  * XIDAM, 29 bits. A 29-bit identifier is ANDed with it before it is compared with a filter element, but for the range
- * without XIDAM; the identifier that is stored is the whole one. The reset value lets all bits through. A start takes
- * the word as it is given and knows no default: with a XIDAM of 0 every 29-bit identifier is compared as 0.
+ * without XIDAM; the identifier that is stored is the whole one. ID1 and ID2 are not ANDed: one that has a bit outside
+ * XIDAM equals no identifier (of a masked element: an ID1 whose bit is 1 in ID2 too). The reset value lets all bits
+ * through. A start takes the word as it is given and knows no default: with a XIDAM of 0 every 29-bit identifier is
+ * compared as 0.
  */
+#define CUONGPHEMI_XIDAM_NAMED UINT32_C(0x1FFFFFFF)
 #define CUONGPHEMI_XIDAM_RESET UINT32_C(0x1FFFFFFF)
 
 /*
@@ -287,6 +310,9 @@ extern "C" {
 #define CUONGPHEMI_STATE_SENT 25              /* whose latest request was sent; a new request clears it */
 #define CUONGPHEMI_STATE_CANCELLED 26         /* whose latest request was cancelled; a new request clears it */
 
+/* A buffer's bit in these words; that of Rx buffers 32 to 63 in CUONGPHEMI_STATE_NEW_DATA_HIGH. */
+#define CUONGPHEMI_BUFFER_BIT(buffer) (UINT32_C(1) << ((buffer)&31))
+
 /* ---- a frame's words. 1 to 5 say yes or no. */
 
 #define CUONGPHEMI_FRAME_ID 0
@@ -304,17 +330,18 @@ extern "C" {
 
 /*
  * How many data bytes a frame has. Remote: none. DLC 0 to 8: as many. DLC 9 to 15: 8 in a classic frame; 12, 16, 20,
- * 24, 32, 48, 64 in an FD frame.
+ * 24, 32, 48, 64 in an FD frame. A DLC over 15, which no call accepts, counts as 15.
  */
 #define CUONGPHEMI_DATA_BYTES(rtr, fdf, dlc) \
-    ((rtr) ? 0 : (dlc) <= 8 ? (dlc) : !(fdf) ? 8 : (dlc) <= 12 ? 4 * ((dlc)-6) : 16 * ((dlc)-11))
+    ((rtr) ? 0 : (dlc) <= 8 ? (dlc) : !(fdf) ? 8 : (dlc) <= 12 ? 4 * ((dlc)-6) : (dlc) <= 14 ? 16 * ((dlc)-11) : 64)
 
 /*
  * ---- filter elements, which the caller writes into the memory's filter sections
  *
  * Element i of the 11-bit list is the word start + i; of the 29-bit list, the words start + 2i and start + 2i + 1.
  * The list of the frame's kind is tried from element 0, and the first element that matches decides. No call refuses a
- * filter word, whatever it is.
+ * filter word, whatever it is. The words may be rewritten at any time between two calls; the next receive uses them.
+ * In the macros that make an element, a value that does not fit makes the element off (all its words are 0).
  *
  * Action CUONGPHEMI_ACTION_RX_BUFFER (7): the type plays no part; an identifier equal to ID1 matches (29-bit: after
  * XIDAM); ID2 bits 5:0 are the number of the Rx buffer. With a bit of ID2's 10:9 set the element asks for a debug
@@ -337,9 +364,11 @@ extern "C" {
 #define CUONGPHEMI_ACTION_PRIORITY_FIFO1 6
 #define CUONGPHEMI_ACTION_RX_BUFFER 7
 
-/* The Rx buffer's number in ID2, of both kinds. */
+/* With action 7, of both kinds, in ID2: the Rx buffer's number, and the bits that ask for a debug message. */
 #define CUONGPHEMI_FILTER_BUFFER_SHIFT 0
 #define CUONGPHEMI_FILTER_BUFFER_MASK 0x3Fu
+#define CUONGPHEMI_FILTER_DEBUG_SHIFT 9
+#define CUONGPHEMI_FILTER_DEBUG_MASK 3u
 
 /* 11-bit: one word. */
 #define CUONGPHEMI_FILTER_11_TYPE_SHIFT 30
@@ -350,14 +379,21 @@ extern "C" {
 #define CUONGPHEMI_FILTER_11_ID1_MASK 0x7FFu
 #define CUONGPHEMI_FILTER_11_ID2_SHIFT 0
 #define CUONGPHEMI_FILTER_11_ID2_MASK 0x7FFu
+#define CUONGPHEMI_FILTER_11_FITS(type, action, id1, id2) \
+    (CUONGPHEMI_FITS(type, CUONGPHEMI_FILTER_11_TYPE) && CUONGPHEMI_FITS(action, CUONGPHEMI_FILTER_11_ACTION) \
+     && CUONGPHEMI_FITS(id1, CUONGPHEMI_FILTER_11_ID1) && CUONGPHEMI_FITS(id2, CUONGPHEMI_FILTER_11_ID2))
 #define CUONGPHEMI_FILTER_11(type, action, id1, id2) \
-    (CUONGPHEMI_PUT(type, CUONGPHEMI_FILTER_11_TYPE) | CUONGPHEMI_PUT(action, CUONGPHEMI_FILTER_11_ACTION) \
-     | CUONGPHEMI_PUT(id1, CUONGPHEMI_FILTER_11_ID1) | CUONGPHEMI_PUT(id2, CUONGPHEMI_FILTER_11_ID2))
+    (!CUONGPHEMI_FILTER_11_FITS(type, action, id1, id2) ? UINT32_C(0) \
+     : CUONGPHEMI_PUT(type, CUONGPHEMI_FILTER_11_TYPE) | CUONGPHEMI_PUT(action, CUONGPHEMI_FILTER_11_ACTION) \
+           | CUONGPHEMI_PUT(id1, CUONGPHEMI_FILTER_11_ID1) | CUONGPHEMI_PUT(id2, CUONGPHEMI_FILTER_11_ID2))
 #define CUONGPHEMI_FILTER_11_TO_BUFFER(id, buffer) \
-    (CUONGPHEMI_FILTER_11(CUONGPHEMI_FILTER_RANGE, CUONGPHEMI_ACTION_RX_BUFFER, id, 0) \
-     | CUONGPHEMI_PUT(buffer, CUONGPHEMI_FILTER_BUFFER))
+    CUONGPHEMI_FILTER_11(CUONGPHEMI_FILTER_RANGE, CUONGPHEMI_ACTION_RX_BUFFER, id, \
+                         CUONGPHEMI_PUT(buffer, CUONGPHEMI_FILTER_BUFFER))
 
-/* 29-bit: two words, the first with action and ID1, the second with type and ID2. */
+/*
+ * 29-bit: two words, the first with action and ID1, the second with type and ID2. The macros of both take all of the
+ * element's values, so that one that does not fit makes both words 0.
+ */
 #define CUONGPHEMI_FILTER_29_ACTION_SHIFT 29
 #define CUONGPHEMI_FILTER_29_ACTION_MASK 7u
 #define CUONGPHEMI_FILTER_29_ID1_SHIFT 0
@@ -366,12 +402,21 @@ extern "C" {
 #define CUONGPHEMI_FILTER_29_TYPE_MASK 3u
 #define CUONGPHEMI_FILTER_29_ID2_SHIFT 0
 #define CUONGPHEMI_FILTER_29_ID2_MASK 0x1FFFFFFFu
-#define CUONGPHEMI_FILTER_29_FIRST(action, id1) \
-    (CUONGPHEMI_PUT(action, CUONGPHEMI_FILTER_29_ACTION) | CUONGPHEMI_PUT(id1, CUONGPHEMI_FILTER_29_ID1))
-#define CUONGPHEMI_FILTER_29_SECOND(type, id2) \
-    (CUONGPHEMI_PUT(type, CUONGPHEMI_FILTER_29_TYPE) | CUONGPHEMI_PUT(id2, CUONGPHEMI_FILTER_29_ID2))
-#define CUONGPHEMI_FILTER_29_TO_BUFFER_FIRST(id) CUONGPHEMI_FILTER_29_FIRST(CUONGPHEMI_ACTION_RX_BUFFER, id)
-#define CUONGPHEMI_FILTER_29_TO_BUFFER_SECOND(buffer) CUONGPHEMI_PUT(buffer, CUONGPHEMI_FILTER_BUFFER)
+#define CUONGPHEMI_FILTER_29_FITS(type, action, id1, id2) \
+    (CUONGPHEMI_FITS(type, CUONGPHEMI_FILTER_29_TYPE) && CUONGPHEMI_FITS(action, CUONGPHEMI_FILTER_29_ACTION) \
+     && CUONGPHEMI_FITS(id1, CUONGPHEMI_FILTER_29_ID1) && CUONGPHEMI_FITS(id2, CUONGPHEMI_FILTER_29_ID2))
+#define CUONGPHEMI_FILTER_29_FIRST(type, action, id1, id2) \
+    (!CUONGPHEMI_FILTER_29_FITS(type, action, id1, id2) ? UINT32_C(0) \
+     : CUONGPHEMI_PUT(action, CUONGPHEMI_FILTER_29_ACTION) | CUONGPHEMI_PUT(id1, CUONGPHEMI_FILTER_29_ID1))
+#define CUONGPHEMI_FILTER_29_SECOND(type, action, id1, id2) \
+    (!CUONGPHEMI_FILTER_29_FITS(type, action, id1, id2) ? UINT32_C(0) \
+     : CUONGPHEMI_PUT(type, CUONGPHEMI_FILTER_29_TYPE) | CUONGPHEMI_PUT(id2, CUONGPHEMI_FILTER_29_ID2))
+#define CUONGPHEMI_FILTER_29_TO_BUFFER_FIRST(id, buffer) \
+    CUONGPHEMI_FILTER_29_FIRST(CUONGPHEMI_FILTER_RANGE, CUONGPHEMI_ACTION_RX_BUFFER, id, \
+                               CUONGPHEMI_PUT(buffer, CUONGPHEMI_FILTER_BUFFER))
+#define CUONGPHEMI_FILTER_29_TO_BUFFER_SECOND(id, buffer) \
+    CUONGPHEMI_FILTER_29_SECOND(CUONGPHEMI_FILTER_RANGE, CUONGPHEMI_ACTION_RX_BUFFER, id, \
+                                CUONGPHEMI_PUT(buffer, CUONGPHEMI_FILTER_BUFFER))
 
 /*
  * ---- the record: two words, lent as words to the calls and as this struct to the steps in place. A union of both
@@ -404,14 +449,17 @@ struct cuongphemi_record {
 #define CUONGPHEMI_FLAG_EVENT_LOST (UINT32_C(1) << 15)      /* a wanted event was lost: list full or of size 0 */
 #define CUONGPHEMI_FLAG_RX_BUFFER (UINT32_C(1) << 19)       /* a frame was stored in an Rx buffer */
 
-/* All of them. With any other bit up in the record, every call but a start returns CUONGPHEMI_REFUSED_UNFIT. */
+/*
+ * All of them. With any other bit up in the record, every call but a start returns 20 (CUONGPHEMI_REFUSED_UNFIT), or
+ * 100 or 101, which are judged first.
+ */
 #define CUONGPHEMI_FLAGS_ALL UINT32_C(0x0008FFFF)
 
 /*
  * The priority word: what the latest frame was that a filter noted as priority. It stays until the next such frame, an
  * accepted start or cuongphemi_priority_put. No call judges it.
  */
-#define CUONGPHEMI_PRIORITY_LIST_SHIFT 15     /* 1: a filter of the 29-bit list */
+#define CUONGPHEMI_PRIORITY_LIST_SHIFT 15     /* the filter's list, one of the two below */
 #define CUONGPHEMI_PRIORITY_LIST_MASK 1u
 #define CUONGPHEMI_PRIORITY_FILTER_SHIFT 8    /* its index */
 #define CUONGPHEMI_PRIORITY_FILTER_MASK 0x7Fu
@@ -419,6 +467,9 @@ struct cuongphemi_record {
 #define CUONGPHEMI_PRIORITY_OUTCOME_MASK 3u
 #define CUONGPHEMI_PRIORITY_PLACE_SHIFT 0     /* the place in the FIFO where it is stored, else 0 */
 #define CUONGPHEMI_PRIORITY_PLACE_MASK 0x3Fu
+
+#define CUONGPHEMI_LIST_11 0                  /* of the 11-bit filters */
+#define CUONGPHEMI_LIST_29 1                  /* of the 29-bit filters */
 
 #define CUONGPHEMI_PRIORITY_NO_FIFO 0         /* noted alone */
 #define CUONGPHEMI_PRIORITY_LOST 1
@@ -467,8 +518,7 @@ struct cuongphemi_record {
 
 /*
  * ---- the steps in place. They ask for no state and refuse nothing. A bit outside CUONGPHEMI_FLAGS_ALL that is raised
- * in a box's record makes its calls return CUONGPHEMI_REFUSED_UNFIT, until it is cleared in place or a start is
- * accepted.
+ * in a box's record makes its calls return 20, or 100 or 101, until it is cleared in place or a start is accepted.
  */
 
 /* Sets the flags of a mask; the priority stays. */
@@ -487,13 +537,18 @@ void cuongphemi_priority_put(struct cuongphemi_record *record, uint32_t word);
  * ---- the calls
  *
  * Every one takes the box first. `answer` has 16 words, of which a call writes those that are named with it and leaves
- * the rest; `output` has 64 bytes, of which it writes the first few that it counts and leaves the rest. `fifo` is 0 or
- * 1. A `place` counts from 0 in its FIFO or list, a `buffer` from 0. What a call can return is listed by number; the
- * numbers' names are above.
+ * the rest (NAME_ANSWER_WORDS says how many there are, from word 0 on); `output` has 64 bytes, of which it writes the
+ * first few that it counts and leaves the rest. `fifo` is one of the two below. A `place` counts from 0 in its FIFO or
+ * list, a `buffer` from 0. `data` is not null, also where a frame has no data. What a call can return is listed by
+ * number; the numbers' names are above. Where a call has no yes-or-no word of its own, 101 speaks of the state's words
+ * 12 and 13.
  */
+#define CUONGPHEMI_FIFO0 0
+#define CUONGPHEMI_FIFO1 1
 
 /*
- * Writes a state for which every call but a start returns CUONGPHEMI_REFUSED_UNFIT, whatever record and memory are.
+ * Writes a state for which every call but a start returns 20, or 100 or 101, which are judged first, whatever record
+ * and memory are. Its words 12 and 13 say no.
  * Returns 0, 100.
  */
 uint32_t cuongphemi_never_started(uint32_t *state, size_t state_words);
@@ -518,7 +573,12 @@ uint32_t cuongphemi_start(uint32_t *state, size_t state_words, uint32_t *record,
 #define CUONGPHEMI_SECTIONS 7
 #define CUONGPHEMI_NO_SECTION 7
 
-/* Answer: the two sections that a refusal 10 to 15 names (written then too), CUONGPHEMI_NO_SECTION for none; */
+/*
+ * Answer: the two sections that a refusal 10 to 15 names (written then too), CUONGPHEMI_NO_SECTION for none. A pair is
+ * the first by its lower section, then by the other, and the lower is named first. An accepted start writes
+ * CUONGPHEMI_NO_SECTION into both;
+ */
+#define CUONGPHEMI_START_ANSWER_WORDS 16      /* 2 of them where it returns 10 to 15 */
 #define CUONGPHEMI_START_NAMED 0
 #define CUONGPHEMI_START_NAMED_TOO 1
 /* and where it is accepted, each section's first word and how many words it has (0 and 0 where its count is 0). */
@@ -527,7 +587,7 @@ uint32_t cuongphemi_start(uint32_t *state, size_t state_words, uint32_t *record,
 
 /*
  * Receives a frame: stores it where the filters send it, or loses or discards it. `time` is stored beside it. Data
- * beyond the element's size are not kept.
+ * beyond the element's size are not kept, the DLC is. `data` is not null, also with 0 bytes.
  * Returns 0, 20, 21, 22, 100, 101.
  */
 uint32_t cuongphemi_receive(uint32_t *state, size_t state_words, uint32_t *record, size_t record_words,
@@ -536,16 +596,17 @@ uint32_t cuongphemi_receive(uint32_t *state, size_t state_words, uint32_t *recor
                             size_t answer_words);
 
 /* Answer. */
+#define CUONGPHEMI_RECEIVE_ANSWER_WORDS 4
 #define CUONGPHEMI_RECEIVE_OUTCOME 0          /* what became of the frame, below */
-#define CUONGPHEMI_RECEIVE_WHERE 1            /* by the outcome: the FIFO, the Rx buffer, the FIFO, the reason */
+#define CUONGPHEMI_RECEIVE_WHERE 1            /* beside each outcome, below */
 #define CUONGPHEMI_RECEIVE_PLACE 2            /* the place in a FIFO where it is stored, else 0 */
 #define CUONGPHEMI_RECEIVE_FILTER 3           /* the index of the filter element that matched + 1, or: */
 #define CUONGPHEMI_RECEIVE_NO_FILTER 0        /* none matched */
 
-#define CUONGPHEMI_OUTCOME_IN_FIFO 1
-#define CUONGPHEMI_OUTCOME_IN_BUFFER 2
-#define CUONGPHEMI_OUTCOME_LOST 3             /* the FIFO is full and blocks, or is of size 0 */
-#define CUONGPHEMI_OUTCOME_DISCARDED 4
+#define CUONGPHEMI_OUTCOME_IN_FIFO 1          /* stored, overwriting or not; WHERE: the FIFO, 0 or 1 */
+#define CUONGPHEMI_OUTCOME_IN_BUFFER 2        /* stored; WHERE: the Rx buffer */
+#define CUONGPHEMI_OUTCOME_LOST 3             /* WHERE: the FIFO, which is full and blocks, or is of size 0 */
+#define CUONGPHEMI_OUTCOME_DISCARDED 4        /* WHERE: the reason, one of those below */
 
 #define CUONGPHEMI_REASON_REMOTE 0            /* remote frames are rejected */
 #define CUONGPHEMI_REASON_REJECT 1            /* by a filter element */
@@ -557,6 +618,7 @@ uint32_t cuongphemi_receive(uint32_t *state, size_t state_words, uint32_t *recor
 
 /*
  * Reads the frame at a held place of a FIFO. Its first bytes, as many as its element has room for, go to the output.
+ * Where the element was too small, the DLC is still the frame's own, and the count says how many bytes are there.
  * Returns 0, 20, 23, 29, 30, 100, 101.
  */
 uint32_t cuongphemi_read_fifo(const uint32_t *state, size_t state_words, const uint32_t *record, size_t record_words,
@@ -564,6 +626,7 @@ uint32_t cuongphemi_read_fifo(const uint32_t *state, size_t state_words, const u
                               uint8_t *output, size_t output_bytes, uint32_t *answer, size_t answer_words);
 
 /* Answer of both reads, as it stands in the element. */
+#define CUONGPHEMI_READ_ANSWER_WORDS 11
 #define CUONGPHEMI_READ_FRAME 0               /* 0 to 6: the frame's words */
 #define CUONGPHEMI_READ_TIME 7
 #define CUONGPHEMI_READ_FILTER 8              /* the filter element's index, told even where the next word says yes */
@@ -585,7 +648,8 @@ uint32_t cuongphemi_release_buffer(uint32_t *state, size_t state_words, const ui
 
 /*
  * Asks for a frame to be sent from a dedicated Tx buffer. `marker` comes back with the choice and the event; `wish`
- * (yes or no): an event is wanted when it was sent. Data beyond the buffer's size are not kept.
+ * (yes or no): an event is wanted when it was sent. All the bytes that the DLC says are lent; those beyond the
+ * buffer's size are not kept. `data` is not null, also with 0 bytes.
  * Returns 0, 20, 21, 23, 24, 100, 101.
  */
 uint32_t cuongphemi_request_dedicated(uint32_t *state, size_t state_words, const uint32_t *record, size_t record_words,
@@ -603,6 +667,7 @@ uint32_t cuongphemi_request_shared(uint32_t *state, size_t state_words, const ui
                                    uint32_t *answer, size_t answer_words);
 
 /* Answer of both requests. */
+#define CUONGPHEMI_REQUEST_ANSWER_WORDS 1
 #define CUONGPHEMI_REQUEST_BUFFER 0           /* the Tx buffer that holds it */
 
 /* Cancels a request that waits in a dedicated or a queue buffer. Returns 0, 20, 23, 26, 27, 100, 101. */
@@ -610,15 +675,20 @@ uint32_t cuongphemi_cancel(uint32_t *state, size_t state_words, uint32_t *record
                            const uint32_t *memory, size_t memory_words, uint32_t buffer);
 
 /*
- * Tells which frame goes out next: of those that wait, the one that wins arbitration. `passive` (yes or no): the
- * sender is error passive. The bytes to send go to the output; those beyond the buffer's size are 0xCC.
+ * Tells which frame goes out next: of those that wait, the one that wins arbitration. Equal identifiers of the same
+ * kind tie, be they classic or FD, where both are remote or neither is: the lowest buffer number goes first. `passive`
+ * (yes or no): the sender is error passive. ESI as sent is set in FD frames alone, where the request has it or the
+ * sender is passive. The bytes to send go to the output; those beyond the buffer's size are CUONGPHEMI_FILLER.
  * Returns 0, 20, 30, 100, 101.
  */
 uint32_t cuongphemi_ask_choice(const uint32_t *state, size_t state_words, const uint32_t *record, size_t record_words,
                                const uint32_t *memory, size_t memory_words, uint32_t passive, uint8_t *output,
                                size_t output_bytes, uint32_t *answer, size_t answer_words);
 
+#define CUONGPHEMI_FILLER 0xCC
+
 /* Answer. */
+#define CUONGPHEMI_CHOICE_ANSWER_WORDS 11     /* 1 where nothing waits */
 #define CUONGPHEMI_CHOICE_BUFFER 0            /* the Tx buffer, or: */
 #define CUONGPHEMI_CHOICE_NOTHING 32          /* nothing waits; then only this word is written */
 #define CUONGPHEMI_CHOICE_MARKER 1
@@ -628,7 +698,8 @@ uint32_t cuongphemi_ask_choice(const uint32_t *state, size_t state_words, const 
 
 /*
  * Reports that the present choice was sent. Where an event is wanted it goes into the list, with the frame as sent, or
- * is lost.
+ * is lost. `passive` (yes or no) and `time` are those of the frame as it went out, and the event tells them: this
+ * `passive` counts, not the one that the choice was asked with.
  * Returns 0, 20, 23, 28, 100, 101.
  */
 uint32_t cuongphemi_report_sent(uint32_t *state, size_t state_words, uint32_t *record, size_t record_words,
@@ -641,6 +712,7 @@ uint32_t cuongphemi_read_event(const uint32_t *state, size_t state_words, const 
                                size_t answer_words);
 
 /* Answer. */
+#define CUONGPHEMI_EVENT_ANSWER_WORDS 10
 #define CUONGPHEMI_EVENT_FRAME 0              /* 0 to 6: the frame's words, as it was sent */
 #define CUONGPHEMI_EVENT_MARKER 7
 #define CUONGPHEMI_EVENT_TYPE 8               /* two bits, as they stand in the event: */
@@ -665,6 +737,7 @@ uint32_t cuongphemi_status(const uint32_t *state, size_t state_words, const uint
  * shared Tx buffers are a queue they are no ring, and all three are 0 whatever waits: CUONGPHEMI_STATUS_PENDING counts
  * what waits, and the bits of the state's word CUONGPHEMI_STATE_PENDING say where.
  */
+#define CUONGPHEMI_STATUS_ANSWER_WORDS 13
 #define CUONGPHEMI_RING_FIFO0 0
 #define CUONGPHEMI_RING_FIFO1 1
 #define CUONGPHEMI_RING_EVENTS 2
