@@ -31,8 +31,11 @@ fn every_name_is_the_hosts_number() {
     groups.into_iter().for_each(|group| group(&h));
     for calls in [&Model as &dyn Calls, &Library] {
         start_numbers(&h, calls);
+        named_bits(&h, calls);
         call_numbers(&h, calls);
         received(&h, calls);
+        priority(&h, calls);
+        buffer_bits(&h, calls);
         sent(&h, calls);
         status(&h, calls);
     }
@@ -65,7 +68,7 @@ fn tokens(text: &str) -> Vec<String> {
     while !rest.is_empty() {
         let word = rest.find(|c| !in_word(c)).unwrap_or(rest.len());
         let sign =
-            if ["##", "<<", ">>", "<=", "!=", "=="].iter().any(|two| rest.starts_with(two)) { 2 } else { 1 };
+            if ["##", "<<", ">>", "<=", "!=", "==", "&&"].iter().any(|two| rest.starts_with(two)) { 2 } else { 1 };
         let (token, after) = rest.split_at(if word > 0 { word } else { sign });
         tokens.push(token.to_string());
         rest = after.trim_start();
@@ -82,7 +85,9 @@ impl Header {
             text.replace_range(from..from + length, " ");
         }
         // Numbers are worked out in 64 bits, where the type that C gives them makes no difference.
-        let text = text.replace("\\\n", " ").replace("(uint32_t)", "").replace("UINT32_C", "");
+        let text = ["(uint32_t)", "(uint64_t)", "UINT32_C"]
+            .into_iter()
+            .fold(text.replace("\\\n", " "), |text, typed| text.replace(typed, ""));
         let mut macros = BTreeMap::new();
         for line in text.replace("CUONGPHEMI_", "").lines().filter_map(|line| line.strip_prefix("#define ")) {
             let (head, body) = match (line.find(' '), line.find('(')) {
@@ -169,19 +174,37 @@ impl Header {
         assert_eq!(words.get(self.number(text) as usize), Some(&value), "the word at {text} in {words:x?}");
     }
 
+    /// A macro's expression for each argument that alone is one too large for its field, the others being 0. The
+    /// fields are named after the parameters.
+    fn with_one_too_large(&self, name: &str, fields: &str) -> Vec<String> {
+        let parameters = &self.macros[name].parameters;
+        let argument = |at: usize, nth: usize| match at == nth {
+            true => format!("{fields}_{}_MASK + 1", parameters[at].to_uppercase()),
+            false => "0".to_string(),
+        };
+        let arguments = |nth| (0..parameters.len()).map(|at| argument(at, nth)).collect::<Vec<_>>().join(", ");
+        (0..parameters.len()).map(|nth| format!("{name}({})", arguments(nth))).collect()
+    }
+
     /// That a field is where the host reads it, and as wide.
     fn field(&self, name: &str, read: impl Fn(u32) -> u32) {
         let [shift, mask] = ["SHIFT", "MASK"].map(|what| self.number(&format!("{name}_{what}")));
         assert_eq!(read(1u32.checked_shl(shift).unwrap_or(0)), 1, "{name}_SHIFT");
         assert_eq!(read(u32::MAX), mask, "{name}_MASK");
-        self.same(&format!("PUT({mask}, {name})"), mask << shift);
-        self.same(&format!("PUT({mask} + 1, {name})"), u32::MAX);
+        // A value fits that the host reads back; any other, of up to 64 bits or below 0, makes a word of ones.
+        for value in [0, 1, i64::from(mask), i64::from(mask) + 1, 1 << 32, (1 << 32) + 1, -1] {
+            let put = (value as u32).checked_shl(shift).unwrap_or(0);
+            let fits = i64::from(read(put)) == value;
+            let value = if value < 0 { "0 - 1".to_string() } else { value.to_string() };
+            self.same(&format!("FITS({value}, {name})"), u32::from(fits));
+            self.same(&format!("PUT({value}, {name})"), if fits { put } else { u32::MAX });
+        }
         self.same(&format!("TAKE(0x97531357, {name})"), read(0x9753_1357));
     }
 }
 
 /// C's operators that the header uses, those that bind least first.
-const BINARY: [&[&str]; 7] = [&["|"], &["&"], &["==", "!="], &["<="], &["<<", ">>"], &["+", "-"], &["*"]];
+const BINARY: [&[&str]; 8] = [&["&&"], &["|"], &["&"], &["==", "!="], &["<="], &["<<", ">>"], &["+", "-"], &["*"]];
 
 /// What is left of an expression.
 struct Expression<'a> {
@@ -225,6 +248,7 @@ impl Expression<'_> {
         while let Some(operator) = self.next_of(operators) {
             let right = self.operation(level + 1);
             left = match operator {
+                "&&" => i64::from(left != 0 && right != 0),
                 "|" => left | right,
                 "&" => left & right,
                 "==" => i64::from(left == right),
@@ -477,10 +501,13 @@ fn register_values(h: &Header) {
         ("NO_MATCH_TO_FIFO1", Destination::FifoWithoutMatch { fifo: 1 }),
         ("NO_MATCH_DISCARDED", Destination::NoMatch),
     ];
+    let unmatched =
+        |anfs| destination(&Registers { gfc: anfs << 4, ..Registers::default() }, &[], &Frame::default());
     for (name, wanted) in no_match {
-        let registers = |anfs| Registers { gfc: anfs << 4, ..Registers::default() };
-        h.lowest(name, 0..4, |anfs| destination(&registers(*anfs), &[], &Frame::default()) == wanted);
+        h.lowest(name, 0..4, |anfs| unmatched(*anfs) == wanted);
     }
+    let discarded: Vec<u32> = (0..4).filter(|anfs| unmatched(*anfs) == Destination::NoMatch).collect();
+    assert_eq!(discarded, ["NO_MATCH_DISCARDED", "NO_MATCH_DISCARDED_TOO"].map(|name| h.number(name)));
     h.same("XIDAM_RESET", Registers::reset().xidam);
     for bytes in SIZE_BYTES {
         let code = h.number(&format!("SIZE_{bytes}"));
@@ -507,20 +534,62 @@ fn filter_elements(h: &Header) {
     h.field("FILTER_29_TYPE", |second| extended_filter(0, second).kind);
     h.field("FILTER_29_ID2", |second| extended_filter(0, second).id2);
     let wanted = Filter { kind: 2, action: 5, id1: 0x123, id2: 0x456 };
-    assert_eq!(standard_filter(h.number("FILTER_11(2, 5, 0x123, 0x456)")), wanted);
-    let [first, second] = ["FILTER_29_FIRST(5, 0x123)", "FILTER_29_SECOND(2, 0x456)"].map(|word| h.number(word));
-    assert_eq!(extended_filter(first, second), wanted);
+    assert_eq!(filter_11(h, "2, 5, 0x123, 0x456"), wanted);
+    assert_eq!(filter_29(h, "2, 5, 0x123, 0x456"), wanted);
+    let most = Filter { kind: 3, action: 7, id1: 0x7FF, id2: 0x7FF };
+    assert_eq!(filter_11(h, "3, 7, ID_11_MOST, ID_11_MOST"), most);
+    let most = Filter { id1: 0x1FFF_FFFF, id2: 0x1FFF_FFFF, ..most };
+    assert_eq!(filter_29(h, "3, 7, ID_29_MOST, ID_29_MOST"), most);
+    h.same("FILTER_11_FITS(3, 7, ID_11_MOST, ID_11_MOST)", 1);
+    h.same("FILTER_29_FITS(3, 7, ID_29_MOST, ID_29_MOST)", 1);
 
-    // With bits 10:9 of ID2 the element asks for a debug message; they are no part of the buffer's number.
-    h.field("FILTER_BUFFER", |id2| match sent_to(0x123, &[7 << 27 | 0x123 << 16 | id2 & 0x1FF], false) {
-        Destination::RxBuffer { buffer, .. } => buffer,
-        other => panic!("{other:?}"),
-    });
-    let words =
-        ["FILTER_29_TO_BUFFER_FIRST(0x1234567)", "FILTER_29_TO_BUFFER_SECOND(40)"].map(|word| h.number(word));
+    // A value that does not fit makes the element off: all its words are 0.
+    for (name, fields) in [
+        ("FILTER_11_FITS", "FILTER_11"),
+        ("FILTER_11", "FILTER_11"),
+        ("FILTER_29_FITS", "FILTER_29"),
+        ("FILTER_29_FIRST", "FILTER_29"),
+        ("FILTER_29_SECOND", "FILTER_29"),
+    ] {
+        h.with_one_too_large(name, fields).iter().for_each(|unfit| h.same(unfit, 0));
+    }
+    for unfit in ["ID_11_MOST + 1, 40", "0x123, RX_BUFFERS_MOST"] {
+        h.same(&format!("FILTER_11_TO_BUFFER({unfit})"), 0);
+    }
+    for unfit in ["ID_29_MOST + 1, 40", "0x1234567, RX_BUFFERS_MOST"] {
+        h.same(&format!("FILTER_29_TO_BUFFER_FIRST({unfit})"), 0);
+        h.same(&format!("FILTER_29_TO_BUFFER_SECOND({unfit})"), 0);
+    }
+    for xtd in [false, true] {
+        assert!((0..0x800).all(|id| sent_to(id, &[0, 0], xtd) == Destination::NoMatch), "words of 0 are off");
+    }
+
+    // What ID2 says with action 7, of both kinds.
+    let of_11 = |id2: u32| sent_to(0x123, &[7 << 27 | 0x123 << 16 | id2 & 0x7FF], false);
+    let of_29 = |id2: u32| sent_to(0x123, &[7 << 29 | 0x123, id2 & 0x1FFF_FFFF], true);
+    for sent in [&of_11 as &dyn Fn(u32) -> Destination, &of_29] {
+        let asks = |bit: &u32| sent(*bit) == Destination::Debug { index: 0 };
+        let debug: u32 = (0..32).map(|at| 1 << at).filter(asks).sum();
+        h.field("FILTER_DEBUG", |id2| (id2 & debug) >> debug.trailing_zeros());
+        h.field("FILTER_BUFFER", |id2| match sent(id2 & !debug) {
+            Destination::RxBuffer { buffer, .. } => buffer,
+            other => panic!("{other:?}"),
+        });
+    }
+    let words = ["FIRST", "SECOND"].map(|word| h.number(&format!("FILTER_29_TO_BUFFER_{word}(0x1234567, 40)")));
     let wanted = Destination::RxBuffer { buffer: 40, index: 0 };
     assert_eq!(sent_to(0x123_4567, &words, true), wanted);
     assert_eq!(sent_to(0x123, &[h.number("FILTER_11_TO_BUFFER(0x123, 40)")], false), wanted);
+}
+
+/// The element that the header makes of these arguments: type, action, ID1 and ID2.
+fn filter_11(h: &Header, arguments: &str) -> Filter {
+    standard_filter(h.number(&format!("FILTER_11({arguments})")))
+}
+
+fn filter_29(h: &Header, arguments: &str) -> Filter {
+    let [first, second] = ["FIRST", "SECOND"].map(|word| h.number(&format!("FILTER_29_{word}({arguments})")));
+    extended_filter(first, second)
 }
 
 /// Where one filter element sends a frame, with 64 Rx buffers. A frame that it doesn't match is discarded.
@@ -582,10 +651,12 @@ fn limits(h: &Header) {
     most("ID_29_MOST", |id| Frame { id, xtd: true, ..Frame::default() });
     most("DLC_MOST", |dlc| Frame { dlc, rtr: true, ..Frame::default() });
     let mut longest = 0;
-    for (rtr, fdf, dlc) in (0..64).map(|at| (at >> 5, at >> 4 & 1, at & 15)) {
-        let length = data_length(rtr == 1, fdf == 1, dlc);
-        h.same(&format!("DATA_BYTES({rtr}, {fdf}, {dlc})"), length);
-        longest = longest.max(length);
+    for (rtr, fdf) in [(0, 0), (0, 1), (1, 0), (1, 1)] {
+        for dlc in (0..=17).chain([u32::MAX]) {
+            let length = data_length(rtr == 1, fdf == 1, dlc);
+            h.same(&format!("DATA_BYTES({rtr}, {fdf}, {dlc})"), length);
+            longest = longest.max(length);
+        }
     }
     h.same("DATA_BYTES_MOST", longest);
 }
@@ -674,6 +745,9 @@ const BOX: Registers = Registers {
     rate_switch_on: true,
 };
 
+/// What stands in an answer's word that no call wrote.
+const UNWRITTEN: u32 = 0xA5A5_A5A5;
+
 const FRAME: Frame = Frame { id: 0x55, xtd: false, rtr: false, fdf: true, brs: true, esi: false, dlc: 6 };
 
 impl Lent<'_> {
@@ -698,14 +772,24 @@ impl Lent<'_> {
     }
 
     fn fresh_answer(&mut self) {
-        self.answer.fill(0xA5A5_A5A5);
+        self.answer.fill(UNWRITTEN);
+    }
+
+    /// That the last call wrote so many words of its answer, from word 0 on, and no other.
+    fn wrote(&self, words: u32) {
+        let written = (0u32..).zip(&self.answer).filter(|(_, word)| **word != UNWRITTEN).map(|(at, _)| at);
+        assert!(written.eq(0..words), "{words} words of {:x?}", self.answer);
     }
 
     fn start(&mut self, registers: &Registers) -> u32 {
-        self.fresh_answer();
         let mut words = [0; REGISTER_WORDS];
         pack_registers(registers, &mut words);
-        self.calls.start(&mut self.state, &mut self.record, &self.memory, &words, &mut self.answer)
+        self.start_of_words(&words)
+    }
+
+    fn start_of_words(&mut self, words: &[u32]) -> u32 {
+        self.fresh_answer();
+        self.calls.start(&mut self.state, &mut self.record, &self.memory, words, &mut self.answer)
     }
 
     fn receive(&mut self, frame: &Frame, time: u16) -> u32 {
@@ -721,10 +805,11 @@ impl Lent<'_> {
         calls.read_fifo(state, record, memory, fifo, place, output, answer)
     }
 
-    fn request_dedicated(&mut self, buffer: u32, marker: u8) -> u32 {
+    fn request_dedicated(&mut self, buffer: u32, frame: &Frame, marker: u8) -> u32 {
         self.fresh_answer();
+        let data = vec![0; data_length(frame.rtr, frame.fdf, frame.dlc) as usize];
         let Lent { calls, state, record, memory, answer, .. } = self;
-        calls.request_dedicated(state, record, memory, buffer, &words_of(&FRAME), &[0; 6], marker, 1, answer)
+        calls.request_dedicated(state, record, memory, buffer, &words_of(frame), &data, marker, 1, answer)
     }
 
     fn request_shared(&mut self) -> u32 {
@@ -754,6 +839,7 @@ fn start_numbers(h: &Header, calls: &dyn Calls) {
         h.same(name, lent.start(&registers));
         h.place("START_NAMED", &lent.answer, h.number(sections[0]));
         h.place("START_NAMED_TOO", &lent.answer, h.number(sections[1]));
+        lent.wrote(2);
     };
     let none = ["NO_SECTION", "NO_SECTION"];
     refused("REFUSED_UNNAMED_BIT", Registers { gfc: 1 << 6, ..BOX }, none);
@@ -765,6 +851,7 @@ fn start_numbers(h: &Header, calls: &dyn Calls) {
     refused("REFUSED_OVERLAP", overlap, ["SECTION_FIFO1", "SECTION_EVENTS"]);
 
     h.same("ACCEPTED", lent.start(&BOX));
+    lent.wrote(h.number("START_ANSWER_WORDS"));
     for (number, place) in sections(&BOX).iter().enumerate() {
         h.place(&format!("START_FIRST_WORD({number})"), &lent.answer, place.start);
         h.place(&format!("START_WORDS({number})"), &lent.answer, place.words);
@@ -775,6 +862,31 @@ fn start_numbers(h: &Header, calls: &dyn Calls) {
     h.same("REFUSED_WRONG_LENGTH", lent.start(&BOX));
 }
 
+/// A start refuses exactly the bits that have no name, and so what a macro makes of a value that does not fit.
+fn named_bits(h: &Header, calls: &dyn Calls) {
+    let mut lent = Lent::new(calls);
+    let registers =
+        ["SIDFC", "XIDFC", "RXF0C", "RXF1C", "RXBC", "RXESC", "TXEFC", "TXBC", "TXESC", "GFC", "XIDAM"];
+    for register in registers {
+        let place = h.number(&format!("REGISTER_{register}")) as usize;
+        let mut refused = |value: u32| {
+            let mut words = [0; REGISTER_WORDS];
+            words[place] = value;
+            lent.start_of_words(&words) == h.number("REFUSED_UNNAMED_BIT")
+        };
+        let name = if register.starts_with("RXF") { "RXFC" } else { register };
+        let named = (0..32).map(|at| 1 << at).filter(|bit| !refused(*bit)).sum();
+        h.same(&format!("{name}_NAMED"), named);
+        // XIDAM has no fields and no macro.
+        if name != "XIDAM" {
+            for unfit in h.with_one_too_large(name, name) {
+                h.same(&unfit, u32::MAX);
+                assert!(refused(h.number(&unfit)), "{unfit}");
+            }
+        }
+    }
+}
+
 fn call_numbers(h: &Header, calls: &dyn Calls) {
     h.same("REFUSED_UNFIT", Lent::new(calls).receive(&FRAME, 0));
     let mut lent = Lent::started(calls);
@@ -783,8 +895,8 @@ fn call_numbers(h: &Header, calls: &dyn Calls) {
     h.same("REFUSED_NOT_HELD", lent.read_fifo(0, 0));
     h.same("REFUSED_NOT_PENDING", lent.cancel(3));
     h.same("REFUSED_NOT_THE_CHOICE", lent.report_sent(3, 0));
-    h.same("ACCEPTED", lent.request_dedicated(3, 0));
-    h.same("REFUSED_ALREADY_PENDING", lent.request_dedicated(3, 0));
+    h.same("ACCEPTED", lent.request_dedicated(3, &FRAME, 0));
+    h.same("REFUSED_ALREADY_PENDING", lent.request_dedicated(3, &FRAME, 0));
     h.same("ACCEPTED", lent.request_shared());
     h.same("ACCEPTED", lent.request_shared());
     h.same("REFUSED_NONE_FREE", lent.request_shared());
@@ -805,14 +917,16 @@ fn received(h: &Header, calls: &dyn Calls) {
     }
     let mut answered = |frame: &Frame, outcome: &str, what: u32, place: u32, filter: u32| {
         h.same("ACCEPTED", lent.receive(frame, 0x1234));
+        lent.wrote(h.number("RECEIVE_ANSWER_WORDS"));
         h.place("RECEIVE_OUTCOME", &lent.answer, h.number(outcome));
         h.place("RECEIVE_WHERE", &lent.answer, what);
         h.place("RECEIVE_PLACE", &lent.answer, place);
         h.place("RECEIVE_FILTER", &lent.answer, filter);
     };
     let element = |nth: u32| Frame { id: 0x10 + nth, ..FRAME };
-    (0..4).for_each(|place| answered(&element(1), "OUTCOME_IN_FIFO", 1, place, 2));
-    answered(&element(1), "OUTCOME_LOST", 1, 0, 2);
+    let [fifo0, fifo1] = ["FIFO0", "FIFO1"].map(|name| h.number(name));
+    (0..4).for_each(|place| answered(&element(1), "OUTCOME_IN_FIFO", fifo1, place, 2));
+    answered(&element(1), "OUTCOME_LOST", fifo1, 0, 2);
     answered(&element(2), "OUTCOME_IN_BUFFER", 3, 0, 3);
     let none = h.number("RECEIVE_NO_FILTER");
     let remote = Frame { rtr: true, fdf: false, brs: false, ..FRAME };
@@ -830,10 +944,11 @@ fn received(h: &Header, calls: &dyn Calls) {
         answered(&frame, "OUTCOME_DISCARDED", reason, 0, filter);
     }
     let unmatched = Frame { id: 0x123_4567, xtd: true, ..FRAME };
-    answered(&unmatched, "OUTCOME_IN_FIFO", 0, 0, none);
+    answered(&unmatched, "OUTCOME_IN_FIFO", fifo0, 0, none);
 
-    for (fifo, frame, filter, anmf) in [(0, unmatched, 0, "YES"), (1, element(1), 1, "NO")] {
+    for (fifo, frame, filter, anmf) in [(fifo0, unmatched, 0, "YES"), (fifo1, element(1), 1, "NO")] {
         h.same("ACCEPTED", lent.read_fifo(fifo, 0));
+        lent.wrote(h.number("READ_ANSWER_WORDS"));
         assert_eq!(lent.answer[h.number("READ_FRAME") as usize..][..FRAME_WORDS], words_of(&frame), "READ_FRAME");
         h.place("READ_TIME", &lent.answer, 0x1234);
         h.place("READ_FILTER", &lent.answer, filter);
@@ -842,14 +957,64 @@ fn received(h: &Header, calls: &dyn Calls) {
     }
 }
 
+/// What the priority word tells of frames that elements of either list note.
+fn priority(h: &Header, calls: &dyn Calls) {
+    let mut lent = Lent::new(calls);
+    let xidam = h.number("XIDAM_RESET");
+    h.same("ACCEPTED", lent.start(&Registers { xidfc: 1 << 16 | 50 << 2, xidam, ..BOX }));
+    lent.memory[3] = h.number("FILTER_11(FILTER_EITHER, ACTION_PRIORITY_FIFO1, 0x13, 0x14)");
+    let arguments = "FILTER_RANGE, ACTION_PRIORITY, 0x1234560, 0x1234567";
+    lent.memory[50] = h.number(&format!("FILTER_29_FIRST({arguments})"));
+    lent.memory[51] = h.number(&format!("FILTER_29_SECOND({arguments})"));
+    let of_11 = Frame { id: 0x13, ..FRAME };
+    let of_29 = Frame { id: 0x123_4565, xtd: true, ..FRAME };
+    let noted = [
+        (of_11, "LIST_11", 3, "PRIORITY_IN_FIFO1", 0),
+        (of_11, "LIST_11", 3, "PRIORITY_IN_FIFO1", 1),
+        (of_29, "LIST_29", 0, "PRIORITY_NO_FIFO", 0),
+    ];
+    for (frame, list, filter, outcome, place) in noted {
+        h.same("ACCEPTED", lent.receive(&frame, 0));
+        let word = lent.record[1];
+        h.same(&format!("TAKE({word}, PRIORITY_LIST)"), h.number(list));
+        h.same(&format!("TAKE({word}, PRIORITY_FILTER)"), filter);
+        h.same(&format!("TAKE({word}, PRIORITY_OUTCOME)"), h.number(outcome));
+        h.same(&format!("TAKE({word}, PRIORITY_PLACE)"), place);
+    }
+}
+
+/// The bit that a buffer sets in the state: each Rx buffer as it is filled, each Tx buffer as it is asked for.
+fn buffer_bits(h: &Header, calls: &dyn Calls) {
+    let mut lent = Lent::new(calls);
+    let (rxbc, txbc) = (100 << 2, 32 << 16 | 500 << 2);
+    let registers = Registers { sidfc: 1 << 16, rxbc, rx_buffers: 64, txbc, fd_on: true, ..Registers::reset() };
+    h.same("ACCEPTED", lent.start(&registers));
+    for buffer in 0..64 {
+        let word = h.number(if buffer < 32 { "STATE_NEW_DATA_LOW" } else { "STATE_NEW_DATA_HIGH" }) as usize;
+        let before = lent.state[word];
+        lent.memory[0] = h.number(&format!("FILTER_11_TO_BUFFER({}, {buffer})", FRAME.id));
+        h.same("ACCEPTED", lent.receive(&FRAME, 0));
+        h.same(&format!("BUFFER_BIT({buffer})"), lent.state[word] ^ before);
+    }
+    for buffer in 0..32 {
+        let word = h.number("STATE_PENDING") as usize;
+        let before = lent.state[word];
+        h.same("ACCEPTED", lent.request_dedicated(buffer, &FRAME, 0));
+        h.same(&format!("BUFFER_BIT({buffer})"), lent.state[word] ^ before);
+    }
+}
+
 fn sent(h: &Header, calls: &dyn Calls) {
     let mut lent = Lent::started(calls);
     h.same("ACCEPTED", lent.ask_choice(0));
+    lent.wrote(1);
     h.place("CHOICE_BUFFER", &lent.answer, h.number("CHOICE_NOTHING"));
     h.same("CHOICE_NOTHING", NO_BUFFER);
-    h.same("ACCEPTED", lent.request_dedicated(3, 0x77));
+    h.same("ACCEPTED", lent.request_dedicated(3, &FRAME, 0x77));
+    lent.wrote(h.number("REQUEST_ANSWER_WORDS"));
     h.place("REQUEST_BUFFER", &lent.answer, 3);
     h.same("ACCEPTED", lent.ask_choice(0));
+    lent.wrote(h.number("CHOICE_ANSWER_WORDS"));
     h.place("CHOICE_BUFFER", &lent.answer, 3);
     h.place("CHOICE_MARKER", &lent.answer, 0x77);
     h.place("CHOICE_WISH", &lent.answer, h.number("YES"));
@@ -859,10 +1024,17 @@ fn sent(h: &Header, calls: &dyn Calls) {
     h.same("ACCEPTED", lent.report_sent(3, 0x4321));
     lent.fresh_answer();
     h.same("ACCEPTED", calls.read_event(&lent.state, &lent.record, &lent.memory, 0, &mut lent.answer));
+    lent.wrote(h.number("EVENT_ANSWER_WORDS"));
     assert_eq!(lent.answer[h.number("EVENT_FRAME") as usize..][..FRAME_WORDS], words_of(&FRAME), "EVENT_FRAME");
     h.place("EVENT_MARKER", &lent.answer, 0x77);
     h.place("EVENT_TYPE", &lent.answer, h.number("EVENT_TYPE_SENT"));
     h.place("EVENT_TIME", &lent.answer, 0x4321);
+
+    // The buffers have room for eight bytes; those of twelve that were not kept go out as the filler.
+    h.same("ACCEPTED", lent.request_dedicated(0, &Frame { dlc: 9, ..FRAME }, 0));
+    h.same("ACCEPTED", lent.ask_choice(0));
+    let filler = u8::try_from(h.number("FILLER")).expect("the filler is a byte");
+    assert_eq!(lent.output[..12], [[0; 4], [0; 4], [filler; 4]].concat(), "FILLER");
 }
 
 fn status(h: &Header, calls: &dyn Calls) {
@@ -887,6 +1059,7 @@ fn status(h: &Header, calls: &dyn Calls) {
     pack_state(&s, &mut lent.state);
     lent.fresh_answer();
     h.same("ACCEPTED", calls.status(&lent.state, &lent.record, &lent.memory, &mut lent.answer));
+    lent.wrote(h.number("STATUS_ANSWER_WORDS"));
     let rings = [
         ("RING_FIFO0", s.fifo0, 32),
         ("RING_FIFO1", s.fifo1, 32),
