@@ -21,8 +21,8 @@ neverStartedCall l =
     (returned 0 (lent (packState neverStarted) (l .recorded) (l .memory) (l .answer) (l .output)))
     (returned 100 l)
 
--- what a start says: refused too it tells the sections that it names, and the sections that it gives are told, not put
--- out
+-- a refused start tells the sections that it names, and leaves the rest; an accepted one tells its output, the
+-- sections, in the answer
 abbrev pub startIn : Lent → World → List ℕ → Says (Unit {0}) → Returned
 startIn l w sections (refuses n) =
     returned (n .number)

@@ -15,7 +15,7 @@ use Rattle.c_entering.specs.Entering.{Lent, has, sized}
 use Rattle.c_calls.specs.Exported.{FromC, start, receive, readFifo, acknowledgeFifo, readBuffer, releaseBuffer}
 use Rattle.c_calls.specs.Exported.{requestDedicated, requestShared, cancel, askChoice, reportSent, readEvent}
 use Rattle.c_calls.specs.Exported.{acknowledgeEvent, clearFlags, reportStatus}
-use Rattle.c_history.specs.Steps.{ownBuffers, kinds, yesNos, every, haveLengths, sayYesOrNo}
+use Rattle.c_history.specs.Steps.{ownBuffers, frameYesNos, yesNos, every, haveLengths, sayYesOrNo}
 
 -- ---- the tests as the calls make them
 
@@ -75,8 +75,8 @@ after-two : (a b m n : Bool) → m ≡ n → (a && b && m) ≡ (a && (b && n))
 after-two true b m n e = ap (λ (x : Bool). b && x) e
 after-two false b m n e = refl
 
-frame-kinds : (frame : List ℕ) → plainFrame frame ≡ every isYesNo (kinds frame)
-frame-kinds frame =
+frame-yes-nos : (frame : List ℕ) → plainFrame frame ≡ every isYesNo (frameYesNos frame)
+frame-yes-nos frame =
     five (isYesNo (word frame 1)) (isYesNo (word frame 2)) (isYesNo (word frame 3)) (isYesNo (word frame 4))
     (isYesNo (word frame 5))
 
@@ -109,15 +109,15 @@ own-words ws m n e = after-two (isYesNo (word ws 12)) (isYesNo (word ws 13)) m n
 
 pub words-tabled : (l : Lent) (c : FromC) → saySo (l .state) c ≡ sayYesOrNo l c
 words-tabled l (start registers) = two (isYesNo (word registers 12)) (isYesNo (word registers 13))
-words-tabled l (receive frame bytes time) = own-words (l .state) _ _ (frame-kinds frame)
+words-tabled l (receive frame bytes time) = own-words (l .state) _ _ (frame-yes-nos frame)
 words-tabled l (readFifo fifo place) = own-words (l .state) true true refl
 words-tabled l (acknowledgeFifo fifo place) = own-words (l .state) true true refl
 words-tabled l (readBuffer buffer) = own-words (l .state) true true refl
 words-tabled l (releaseBuffer buffer) = own-words (l .state) true true refl
 words-tabled l (requestDedicated buffer frame bytes marker wish) =
-    own-words (l .state) _ _ (ap (λ (x : Bool). isYesNo wish && x) (frame-kinds frame))
+    own-words (l .state) _ _ (ap (λ (x : Bool). isYesNo wish && x) (frame-yes-nos frame))
 words-tabled l (requestShared frame bytes marker wish) =
-    own-words (l .state) _ _ (ap (λ (x : Bool). isYesNo wish && x) (frame-kinds frame))
+    own-words (l .state) _ _ (ap (λ (x : Bool). isYesNo wish && x) (frame-yes-nos frame))
 words-tabled l (cancel buffer) = own-words (l .state) true true refl
 words-tabled l (askChoice passive) = own-words (l .state) _ _ (one (isYesNo passive))
 words-tabled l (reportSent buffer passive time) = own-words (l .state) _ _ (one (isYesNo passive))

@@ -71,19 +71,19 @@ buffersOf l c = (l .state, 27) ∷ (l .recorded, 2) ∷ ownBuffers (l .answer) c
 abbrev pub switches : List ℕ → List ℕ → List ℕ
 switches ws more = word ws 12 ∷ word ws 13 ∷ more
 
-abbrev pub kinds : List ℕ → List ℕ
-kinds frame = word frame 1 ∷ word frame 2 ∷ word frame 3 ∷ word frame 4 ∷ word frame 5 ∷ []
+abbrev pub frameYesNos : List ℕ → List ℕ
+frameYesNos frame = word frame 1 ∷ word frame 2 ∷ word frame 3 ∷ word frame 4 ∷ word frame 5 ∷ []
 
 -- the words that say yes or no: of the state, but of a start of its registers, and the call's own
 abbrev pub yesNos : List ℕ → FromC → List ℕ
 yesNos state (start registers) = switches registers []
-yesNos state (receive frame bytes time) = switches state (kinds frame)
+yesNos state (receive frame bytes time) = switches state (frameYesNos frame)
 yesNos state (readFifo fifo place) = switches state []
 yesNos state (acknowledgeFifo fifo place) = switches state []
 yesNos state (readBuffer buffer) = switches state []
 yesNos state (releaseBuffer buffer) = switches state []
-yesNos state (requestDedicated buffer frame bytes marker wish) = switches state (wish ∷ kinds frame)
-yesNos state (requestShared frame bytes marker wish) = switches state (wish ∷ kinds frame)
+yesNos state (requestDedicated buffer frame bytes marker wish) = switches state (wish ∷ frameYesNos frame)
+yesNos state (requestShared frame bytes marker wish) = switches state (wish ∷ frameYesNos frame)
 yesNos state (cancel buffer) = switches state []
 yesNos state (askChoice passive) = switches state (passive ∷ [])
 yesNos state (reportSent buffer passive time) = switches state (passive ∷ [])

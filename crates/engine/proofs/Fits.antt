@@ -1,13 +1,18 @@
--- A state that was never started is unfit.
+-- A state that was never started is unfit; clearing flags keeps a state fit.
 -- Assumes nothing.
-use Prim.Native.Nat.{ℕ}
+use Prim.Native.Nat.{ℕ, _-_, _^_}
 use mathlib.Core.Path.{_≡_, refl}
 use mathlib.Core.Bool.{Bool, true, false}
 use native.Mathlib.Omega.{arith}
+use Rattle.words.specs.Bits.{withoutMask}
+use Rattle.words.proofs.Bits.{bit-and}
 use Rattle.engine.specs.Fitness.{unfit}
+use Rattle.engine.specs.Flags.{cleared}
 use Rattle.engine.specs.Promises.{NeverStartedIsUnfit}
 use Rattle.engine.specs.States.{neverStarted}
-use Rattle.engine.proofs.Sounds.{sound-of}
+use Rattle.engine.specs.declared.state.State.{State}
+use Rattle.engine.specs.declared.state.Record.{Record}
+use Rattle.engine.proofs.Sounds.{sound-of, flags-of, fit-of}
 
 pub never-started-is-unfit : NeverStartedIsUnfit
 never-started-is-unfit r words = go (unfit neverStarted r words) refl
@@ -17,3 +22,10 @@ never-started-is-unfit r words = go (unfit neverStarted r words) refl
     go false e =
         let z : _≡_ {A = ℕ} 1 0 = sound-of neverStarted r words e .legal .named .gfc 31 refl in
         absurd (omega arith)
+
+pub cleared-fit : (s : State) (r : Record) (words mask : ℕ) → unfit s r words ≡ false
+    → unfit s (cleared r mask) words ≡ false
+unfolding cleared withoutMask
+cleared-fit s r words mask e =
+    fit-of s (cleared r mask) words (sound-of s r words e)
+    (λ k f. omega (arith, bit-and (r .flags) (2 ^ 32 - 1 - mask) k, flags-of s r words e k f))

@@ -21,7 +21,7 @@ use Rattle.taking.proofs.Fits.{acknowledge-fit, release-fit}
 use Rattle.requesting.proofs.Fits.{dedicated-fit, shared-fit, cancel-fit}
 use Rattle.reporting.proofs.Fits.{report-fit}
 use Rattle.events.proofs.Fits.{acknowledge-event-fit}
-use Rattle.overview.proofs.Fits.{cleared-fit}
+use Rattle.engine.proofs.Fits.{cleared-fit}
 use Rattle.handler.specs.Calls.{Call, start, receive, readFifo, acknowledgeFifo, readBuffer, releaseBuffer}
 use Rattle.handler.specs.Calls.{requestDedicated, requestShared, cancel, askChoice, reportSent, readEvent}
 use Rattle.handler.specs.Calls.{acknowledgeEvent, clearFlags, reportStatus, Answer, step}

@@ -4,11 +4,12 @@ use mathlib.Core.Path.{refl}
 use native.Mathlib.Omega.{arith}
 use Rattle.words.proofs.Bits.{bit-lt, bit-of-zero, bit-or, cleared-bit}
 use Rattle.engine.specs.Flags.{cleared, withPriority}
+use Rattle.engine.proofs.Fits.{cleared-fit}
 use Rattle.engine.proofs.Sounds.{sound-of, flags-of, fit-of}
 use Rattle.inplace.specs.Raising.{raisedMask}
 use Rattle.inplace.specs.Taking.{taken, withoutFlags}
 use Rattle.inplace.specs.Promises.{RaiseSetsTheMask, RaiseKeepsTheRest, ClearClearsTheMask, ClearKeepsTheRest}
-use Rattle.inplace.specs.Promises.{PutReplacesThePriority, TakeLosesNothing}
+use Rattle.inplace.specs.Promises.{PutReplacesThePriority, ClearKeepsFit, TakeLosesNothing}
 use Rattle.inplace.specs.Promises.{RaiseKeepsFit, PutKeepsFit, TakeKeepsFit}
 
 pub raise-sets-the-mask : RaiseSetsTheMask
@@ -41,6 +42,9 @@ unfolding raisedMask
 raise-keeps-fit s r words mask named e =
     fit-of s (raisedMask r mask) words (sound-of s r words e)
     (λ k f. omega (arith, bit-or (r .flags) mask k, flags-of s r words e k f, named k f))
+
+pub clear-keeps-fit : ClearKeepsFit
+clear-keeps-fit = cleared-fit
 
 pub put-keeps-fit : PutKeepsFit
 unfolding withPriority

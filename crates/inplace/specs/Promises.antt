@@ -47,11 +47,15 @@ TakeLosesNothing =
     × (raisedMask r (taken from) .priority ≡ r .priority)
     × (withoutFlags from .priority ≡ from .priority)
 
--- a fit state stays fit where the flags raised are named ones, and where any priority is put
+-- a fit state stays fit where the flags raised are named ones, where any are cleared, and where any priority is put
 abbrev pub RaiseKeepsFit : Type 0
 RaiseKeepsFit =
     (s : State) (r : Record) (words mask : ℕ) → RestZero flagFields mask → unfit s r words ≡ false
     → unfit s (raisedMask r mask) words ≡ false
+
+abbrev pub ClearKeepsFit : Type 0
+ClearKeepsFit =
+    (s : State) (r : Record) (words mask : ℕ) → unfit s r words ≡ false → unfit s (cleared r mask) words ≡ false
 
 abbrev pub PutKeepsFit : Type 0
 PutKeepsFit =

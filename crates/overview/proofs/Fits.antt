@@ -1,35 +1,25 @@
--- Clearing flags keeps a state fit, and what a fit state counts.
+-- When these calls are let in, and what a fit state counts.
 -- Assumes nothing.
-use Prim.Native.Nat.{ℕ, _-_, _^_}
+use Prim.Native.Nat.{ℕ}
 use mathlib.Core.Path.{_≡_, ap, _∙_}
 use mathlib.Core.Bool.{false}
 use mathlib.Core.List.{[]}
 use native.Mathlib.Omega.{arith}
 use lib.ListN.{length}
-use Rattle.words.specs.Bits.{isSet, howMany, withoutMask}
+use Rattle.words.specs.Bits.{isSet, howMany}
 use Rattle.words.specs.Rules.{allowed, first}
-use Rattle.words.proofs.Bits.{bit-and}
 use Rattle.words.proofs.Counting.{ones-many}
 use Rattle.shape.specs.Calls.{answers, tells}
 use Rattle.shape.proofs.Calls.{call-cases}
 use Rattle.registers.specs.Fields.{txCount}
 use Rattle.engine.specs.Calls.{World, Outcome, isUnfit}
-use Rattle.engine.specs.Fitness.{unfit, Sound}
-use Rattle.engine.specs.Flags.{cleared}
+use Rattle.engine.specs.Fitness.{Sound}
 use Rattle.engine.specs.declared.state.State.{State}
-use Rattle.engine.specs.declared.state.Record.{Record}
 use Rattle.engine.proofs.Calls.{row-off}
-use Rattle.engine.proofs.Sounds.{sound-of, flags-of, fit-of}
+use Rattle.engine.proofs.Sounds.{sound-of}
 use Rattle.overview.specs.Overview.{overviewRefusals, statusOf}
 use Rattle.overview.specs.Promises.{PendingIsCounted}
 use Rattle.overview.specs.declared.Overview.{Overview}
-
-pub cleared-fit : (s : State) (r : Record) (words mask : ℕ) → unfit s r words ≡ false
-    → unfit s (cleared r mask) words ≡ false
-unfolding cleared withoutMask
-cleared-fit s r words mask e =
-    fit-of s (cleared r mask) words (sound-of s r words e)
-    (λ k f. omega (arith, bit-and (r .flags) (2 ^ 32 - 1 - mask) k, flags-of s r words e k f))
 
 pub overview-fit : (w : World) → first (overviewRefusals w) ≡ allowed → isUnfit w ≡ false
 unfolding overviewRefusals

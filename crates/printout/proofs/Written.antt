@@ -25,7 +25,7 @@ use Rattle.registers.specs.declared.Registers.{Registers}
 use Rattle.printout.specs.Ascii.{ascii}
 use Rattle.printout.specs.Input.{within, digitOf, inPlace, outOfPlace, firstOut, readable, numberFrom, number}
 use Rattle.printout.specs.Input.{registersOf}
-use Rattle.printout.specs.Lines.{Writes, Line, TwelveLines, registersFrom}
+use Rattle.printout.specs.Lines.{Writes, Line, TwelveLines, twelveRegisters}
 use Rattle.printout.specs.Printed.{unread, told, report, printed}
 use Rattle.printout.specs.Promises.{ReadsTheWords, UnreadIsExact}
 use Rattle.printout.proofs.Lines.{newline-there, digit-there, read-by, read-length, digit-small}
@@ -204,7 +204,7 @@ module _ (ws s : List ℕ) (t : TwelveLines ws s) where
   on-line : (i : ℕ) → i < 12 → number s i ≡ getD ws i 0
   on-line i h = line-number (getD ws i 0) s (9 * i) (t .line i h)
 
-  registers-are : registersOf s ≡ registersFrom ws
+  registers-are : registersOf s ≡ twelveRegisters ws
   registers-are = λ j. record {
     sidfc = record { word = on-line 0 (omega arith) j };
     xidfc = record { word = on-line 1 (omega arith) j };
@@ -235,7 +235,7 @@ no-report (refused a) ss e = absurd (omega (arith, ap (λ (l : List ℕ). getD l
 pub unread-is-exact : UnreadIsExact
 unfolding printed
 unread-is-exact s = (
-  λ e ws t. no-report (verdict memoryWords (registersFrom ws) memoryWords) (sectionsOf (registersFrom ws))
+  λ e ws t. no-report (verdict memoryWords (twelveRegisters ws) memoryWords) (sectionsOf (twelveRegisters ws))
       (sym (reads-the-words ws s t) ∙ e),
   λ n. go n (readable s) refl,
 )

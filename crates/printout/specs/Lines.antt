@@ -25,8 +25,8 @@ pub record TwelveLines (ws : List ℕ) (s : List ℕ) : Type 0 where
   pub line : (i : ℕ) → i < 12 → Line (getD ws i 0) s (9 * i)
 
 -- the registers of twelve words in the paper's order, the last the number of Rx buffers; FD and the rate switch are off
-abbrev pub registersFrom : List ℕ → Registers
-registersFrom ws = record {
+abbrev pub twelveRegisters : List ℕ → Registers
+twelveRegisters ws = record {
   sidfc = record { word = getD ws 0 0 };
   xidfc = record { word = getD ws 1 0 };
   rxf0c = record { word = getD ws 2 0 };
