@@ -13,7 +13,7 @@ use Rattle.places.specs.Areas.{areaRange, Apart}
 use Rattle.places.specs.declared.Area.{Area}
 use Rattle.registers.specs.declared.Registers.{Registers}
 use Rattle.layout.specs.Legal.{Legal}
-use Rattle.layout.specs.Sections.{memoryWords, none, sectionsOf}
+use Rattle.layout.specs.Sections.{none, sectionsOf}
 use Rattle.layout.specs.Verdict.{end}
 use Rattle.layout.specs.declared.sections.Section.{Section}
 use Rattle.layout.proofs.Table.{section-words, has-within, within-has}
@@ -51,12 +51,12 @@ areas-apart : (a b : Area) (s t : Section) → s .start .0 ≡ a .start .0 → s
 areas-apart a b s t e f p q (inl h) = inl (omega (arith, h, e, f, p))
 areas-apart a b s t e f p q (inr h) = inr (omega (arith, h, e, p, q))
 
-module _ (g : Registers) (words : ℕ) (legal : Legal memoryWords g words) where
+module _ (g : Registers) (words : ℕ) (legal : Legal g words) where
   own-before : (i j : ℕ) → i < j → j < 5 → Apart (own g i) (own g j)
   own-before i j a b =
       areas-apart (own g i) (own g j) _ _ (own-start g i (omega arith)) (own-size g i (omega arith)) (own-start g j b)
       (own-size g j b)
-      (sections-apart memoryWords g words legal (2 + i) (2 + j) (omega arith) (omega arith))
+      (sections-apart g words legal (2 + i) (2 + j) (omega arith) (omega arith))
 
   pub own-apart : (i j : ℕ) → i < 5 → j < 5 → (i ≡ j → ⊥) → Apart (own g i) (own g j)
   own-apart i j a b ne = go (ltb i j) refl

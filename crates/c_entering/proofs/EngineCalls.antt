@@ -23,7 +23,7 @@ use Rattle.starting.specs.Starting.{unreported, start}
 use Rattle.overview.specs.Overview.{clearFlags, meaning as statusSays, reportStatus}
 use Rattle.overview.specs.declared.StatusAnswer.{StatusAnswer}
 use Rattle.c_words.specs.States.{plainRegisters, unpackRegisters, unpackState, packState, ComesBack, unpackRecord}
-use Rattle.c_words.specs.States.{packRecord}
+use Rattle.c_words.specs.States.{stateWords, packRecord}
 use Rattle.c_answers.specs.Answers.{resultOf, toldIn, noWords, overviewWords, startWords}
 use Rattle.c_entering.specs.Entering.{lent, returned, has, entryNumber, sized}
 use Rattle.c_entering.specs.EngineCalls.{neverStartedCall, startCall, clearCall, statusCall}
@@ -33,16 +33,16 @@ use Rattle.c_entering.proofs.Crossed.{untold, same-state, same-recorded
 -- ---- a state that was never started
 
 module _ (state recorded mem answer out : List ℕ) where
-  pub no-state : (length state ≡ 27 → ⊥)
+  pub no-state : (length state ≡ stateWords → ⊥)
       → returned 100 (lent state recorded mem answer out) ≡ neverStartedCall (lent state recorded mem answer out)
   unfolding neverStartedCall
-  no-state h = sym (pick-second _ _ (ne-eqb (length state) 27 h))
+  no-state h = sym (pick-second _ _ (ne-eqb (length state) stateWords h))
 
-  pub never-written : (s : State) (m : List ℕ) → length state ≡ 27 → s ≡ neverStarted → m ≡ packState s
+  pub never-written : (s : State) (m : List ℕ) → length state ≡ stateWords → s ≡ neverStarted → m ≡ packState s
       → returned 0 (lent m recorded mem answer out) ≡ neverStartedCall (lent state recorded mem answer out)
   unfolding neverStartedCall
   never-written s m h x y =
-      alike refl (y ∙ ap packState x) refl refl refl refl ∙ sym (pick-first _ _ (eq-eqb (length state) 27 h))
+      alike refl (y ∙ ap packState x) refl refl refl refl ∙ sym (pick-first _ _ (eq-eqb (length state) stateWords h))
 
 -- ---- a start of what stands in words
 

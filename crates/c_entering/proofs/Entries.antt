@@ -10,7 +10,7 @@ use lib.ListN.{length}
 use Rattle.words.specs.Rules.{Ruling, allowed, refused, refuseIf, first, settle}
 use Rattle.words.proofs.Choices.{and-both}
 use Rattle.c_words.specs.Needs.{StateWords, BoxWords}
-use Rattle.c_words.specs.States.{plainRegisters}
+use Rattle.c_words.specs.States.{stateWords, plainRegisters}
 use Rattle.c_entering.specs.Entering.{Lent, lent, Returned, returned, has, entryRuling, entryNumber, entering}
 use Rattle.c_entering.specs.Entering.{sized}
 
@@ -74,15 +74,15 @@ crossed l lengths words o n d f =
 
 module _ (state recorded : List ℕ) (lengths words : Bool) (n : ℕ)
     (d : n ≡ entryNumber (sized state recorded && lengths) words) (f : n ≡ 0) where
-  all-sized : (has state 27 ≡ true) × (has recorded 2 ≡ true) × (lengths ≡ true)
+  all-sized : (has state stateWords ≡ true) × (has recorded 2 ≡ true) × (lengths ≡ true)
   all-sized =
       let all = and-both (sized state recorded) lengths
       (not-false (sized state recorded && lengths) (no-rule (sized state recorded && lengths) words n d f .0)) in
-      let two = and-both (has state 27) (has recorded 2) (all .0) in
+      let two = and-both (has state stateWords) (has recorded 2) (all .0) in
       (two .0, two .1, all .1)
 
-  pub open-size : length state ≡ 27
-  open-size = eqb-true (length state) 27 (all-sized .0)
+  pub open-size : length state ≡ stateWords
+  open-size = eqb-true (length state) stateWords (all-sized .0)
 
   pub open-recorded : length recorded ≡ 2
   open-recorded = eqb-true (length recorded) 2 (all-sized .1)

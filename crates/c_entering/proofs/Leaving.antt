@@ -6,7 +6,7 @@ use mathlib.Core.Bool.{Bool, true, false, _&&_}
 use mathlib.Core.List.{List}
 use native.Mathlib.Nat.{zero-add}
 use native.Mathlib.Omega.{arith}
-use lib.ListN.{length, drop}
+use lib.ListN.{length, drop, replicate}
 use lib.Seq.{drop-append-seam}
 use Rattle.words.specs.Choice.{pick}
 use Rattle.words.specs.Rules.{Ruling, allowed, refused, settle}
@@ -16,16 +16,16 @@ use Rattle.engine.specs.Calls.{World}
 use Rattle.engine.specs.Fitness.{unfit}
 use Rattle.engine.specs.States.{neverStarted}
 use Rattle.engine.specs.declared.state.State.{State}
-use Rattle.engine.proofs.Fits.{never-started-is-unfit}
+use Rattle.engine.proofs.Fits.{no-length-is-unfit, never-started-is-unfit}
 use Rattle.starting.specs.Starting.{start}
-use Rattle.c_words.specs.States.{plainRegisters, unpackRegisters, unpackState, packState}
+use Rattle.c_words.specs.States.{registerWords, stateWords, plainRegisters, unpackRegisters, unpackState, packState}
 use Rattle.c_words.proofs.Inverse.{values-come-back}
 use Rattle.c_entering.specs.Entering.{Lent, lent, Returned, returned, has, entryRuling, entering, sized, worldOf}
 use Rattle.c_entering.specs.Entering.{saidIn, inWords}
 use Rattle.c_entering.specs.EngineCalls.{neverStartedCall, startIn, startInWords, startCall}
 use Rattle.c_entering.specs.Promises.{Leaves, LeavesButNames}
 use Rattle.c_entering.specs.Promises.{RefusalsLeaveAll, NeverStartedLeavesAll, StartLeavesAll, RestOfAnswerStays}
-use Rattle.c_entering.specs.Promises.{NeverStartedIsUnfitInWords}
+use Rattle.c_entering.specs.Promises.{NeverStartedIsUnfitInWords, ZeroedIsUnfitInWords}
 
 module _ (l : Lent) where
   -- 100 and 101 do, and else the call decides
@@ -57,13 +57,13 @@ refusals-leave-all A l lengths words told o =
 
 pub never-started-leaves-all : NeverStartedLeavesAll
 unfolding neverStartedCall
-never-started-leaves-all l = written l (has (l .state) 27) _ refl
+never-started-leaves-all l = written l (has (l .state) stateWords) _ refl
 
 pub start-leaves-all : StartLeavesAll
 unfolding startCall entering startInWords
 start-leaves-all l registers =
     let o = start (worldOf l) (unpackRegisters registers) in
-    let lengths = sized (l .state) (l .recorded) && (has registers 14 && has (l .answer) 16) in
+    let lengths = sized (l .state) (l .recorded) && (has registers registerWords && has (l .answer) 16) in
     shut l (LeavesButNames l) (λ n f. (refl, refl)) (entryRuling lengths (plainRegisters registers)) (startInWords l o)
     (started l (o .world) (o .output) (o .says))
 
@@ -83,10 +83,14 @@ rest-of-answer-stays A l told o a e =
 
 pub never-started-is-unfit-in-words : NeverStartedIsUnfitInWords
 unfolding neverStartedCall
-never-started-is-unfit-in-words l e r words = go (has (l .state) 27) e
+never-started-is-unfit-in-words l e r words = go (has (l .state) stateWords) e
   where
     go : (b : Bool) → let made = returned 0 (lent (packState neverStarted) (l .recorded) (l .memory) (l .answer) (l .output)) in
         pick b made (returned 100 l) .number ≡ 0
         → unfit (unpackState (pick b made (returned 100 l) .lent .state)) r words ≡ true
     go true e = ap (λ (s : State). unfit s r words) (values-come-back .state neverStarted) ∙ never-started-is-unfit r words
     go false e = absurd (omega arith)
+
+pub zeroed-is-unfit-in-words : ZeroedIsUnfitInWords
+unfolding unpackState
+zeroed-is-unfit-in-words r words = no-length-is-unfit (unpackState (replicate stateWords 0)) r words refl

@@ -6,7 +6,7 @@ use mathlib.Core.Bool.{Bool, true, false, not}
 use mathlib.Core.List.{List}
 use native.Mathlib.Omega.{arith}
 use borrow.Author.Tests.{ltb-true}
-use lib.Dec.{eqb, ltb}
+use lib.Dec.{ltb}
 use lib.ListN.{getD, length}
 use Rattle.words.specs.Least.{leastFrom}
 use Rattle.words.specs.Rules.{Ruling, allowed, refused, refuseIf, first, _orElse_}
@@ -14,11 +14,11 @@ use Rattle.words.proofs.Lowest.{least-within}
 use Rattle.shape.specs.Calls.{Says, outcome}
 use Rattle.shape.specs.Refusals.{Refusal, names, Refusals}
 use Rattle.shape.proofs.Calls.{call-refused, call-done}
-use Rattle.registers.specs.Fields.{txCount}
+use Rattle.registers.specs.Fields.{memoryWords, txCount}
 use Rattle.registers.specs.Given.{allNamed}
 use Rattle.registers.specs.declared.Registers.{Registers}
-use Rattle.layout.specs.Sections.{none, memoryWords, sectionsOf}
-use Rattle.layout.specs.Verdict.{plain, memoryRule, bitsRule, countRule, txRule, endRule, over, past, shares}
+use Rattle.layout.specs.Sections.{none, sectionsOf}
+use Rattle.layout.specs.Verdict.{plain, wrongMemory, memoryRule, bitsRule, countRule, txRule, endRule, over, past, shares}
 use Rattle.layout.specs.Verdict.{partner, hasPartner, pairRule, firstWith, rules}
 use Rattle.layout.specs.declared.sections.Section.{Section}
 use Rattle.engine.specs.Calls.{World, Outcome}
@@ -49,13 +49,14 @@ pair-fits ss =
     when (ltb i 7) (names 15 i (partner ss i))
     (λ t. (omega (arith, ltb-true i 7 t), omega (arith, ltb-true i 7 t, least-within shared (i + 1) (7 - (i + 1)))))
 
-names-fit : (given : ℕ) (g : Registers) (words : ℕ) → Fits (first (rules given g words))
-names-fit given g words =
-    either (memoryRule given words) _ (when (not (eqb words given)) (plain 10) (λ t. (omega arith, omega arith)))
+names-fit : (g : Registers) (words : ℕ) → Fits (first (rules g words))
+names-fit g words =
+    either (memoryRule g words) _
+    (when (wrongMemory (memoryWords g) words) (plain 10) (λ t. (omega arith, omega arith)))
     (either (bitsRule g) _ (when (not (allNamed g)) (plain 11) (λ t. (omega arith, omega arith)))
     (either (countRule g) _ (first-fits 12 (over g))
     (either (txRule g) _ (when (ltb 32 (txCount g)) (plain 13) (λ t. (omega arith, omega arith)))
-    (either (endRule words (sectionsOf g)) _ (first-fits 14 (past words (sectionsOf g)))
+    (either (endRule (memoryWords g) (sectionsOf g)) _ (first-fits 14 (past (memoryWords g) (sectionsOf g)))
     (either (pairRule (sectionsOf g)) allowed (pair-fits (sectionsOf g)) tt)))))
 
 abbrev Named : Outcome (Unit {0}) → Type 0
@@ -63,7 +64,7 @@ Named o = NamesFit (o .says)
 
 module _ (w : World) (g : Registers) where
   abbrev rows : Refusals
-  rows = rules memoryWords g (length (w .memory))
+  rows = rules g (length (w .memory))
 
   start-names : (v : Ruling Refusal) → first rows ≡ v → Fits v → Named (start w g)
   start-names allowed e h = subst Named (sym (call-done w unreported rows (starts w g) e)) tt
@@ -72,4 +73,4 @@ module _ (w : World) (g : Registers) where
   pub names-told : (says : Says (Unit {0})) (after : World) (sections : List ℕ)
       → outcome says after sections ≡ start w g → NamesFit says
   names-told says after sections e =
-      subst Named (sym e) (start-names (first rows) refl (names-fit memoryWords g (length (w .memory))))
+      subst Named (sym e) (start-names (first rows) refl (names-fit g (length (w .memory))))

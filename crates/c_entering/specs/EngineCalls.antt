@@ -9,7 +9,7 @@ use Rattle.engine.specs.Calls.{World, Outcome}
 use Rattle.engine.specs.States.{neverStarted}
 use Rattle.starting.specs.Starting.{start}
 use Rattle.overview.specs.Overview.{clearFlags, reportStatus}
-use Rattle.c_words.specs.States.{plainRegisters, unpackRegisters, packState}
+use Rattle.c_words.specs.States.{registerWords, stateWords, plainRegisters, unpackRegisters, packState}
 use Rattle.c_answers.specs.Answers.{noWords, startWords, overviewWords}
 use Rattle.c_entering.specs.Entering.{Lent, lent, Returned, returned, has, entering, sized, crossing}
 use Rattle.c_entering.specs.Entering.{worldOf, leaving, inWords}
@@ -17,7 +17,7 @@ use Rattle.c_entering.specs.Entering.{worldOf, leaving, inWords}
 -- a state for which every call but a start answers 20
 unfoldable pub neverStartedCall : Lent → Returned
 neverStartedCall l =
-    pick (has (l .state) 27)
+    pick (has (l .state) stateWords)
     (returned 0 (lent (packState neverStarted) (l .recorded) (l .memory) (l .answer) (l .output)))
     (returned 100 l)
 
@@ -35,7 +35,7 @@ startInWords l o = startIn l (o .world) (o .output) (o .says)
 -- call 1: the old state may be any words
 unfoldable pub startCall : Lent → List ℕ → Returned
 startCall l registers =
-    entering l (sized (l .state) (l .recorded) && (has registers 14 && has (l .answer) 16)) (plainRegisters registers)
+    entering l (sized (l .state) (l .recorded) && (has registers registerWords && has (l .answer) 16)) (plainRegisters registers)
     (startInWords l (start (worldOf l) (unpackRegisters registers)))
 
 -- call 14

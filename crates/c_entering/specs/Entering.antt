@@ -8,7 +8,7 @@ use Rattle.words.specs.Rules.{Ruling, refuseIf, first, settle}
 use Rattle.words.specs.Runs.{splice}
 use Rattle.shape.specs.Calls.{Says, refuses, answers}
 use Rattle.engine.specs.Calls.{World, world, Outcome}
-use Rattle.c_words.specs.States.{plainRegisters, unpackState, packState, unpackRecord, packRecord}
+use Rattle.c_words.specs.States.{stateWords, plainRegisters, unpackState, packState, unpackRecord, packRecord}
 
 -- ---- what is lent, and what a call leaves
 
@@ -57,7 +57,7 @@ entering l lengths words r = settle (entryRuling lengths words) r (λ n. returne
 
 -- the state and the record have their lengths
 abbrev pub sized : List ℕ → List ℕ → Bool
-sized state recorded = has state 27 && has recorded 2
+sized state recorded = has state stateWords && has recorded 2
 
 -- of a call on a state: the box and the call's own buffers have their lengths; the state's and the call's own words
 -- say yes or no

@@ -3,12 +3,12 @@ use mathlib.Core.Path.{_≡_}
 use mathlib.Core.Bool.{Bool, true}
 use mathlib.Core.List.{List}
 use Prim.Native.Nat.{ℕ}
-use lib.ListN.{length, drop}
+use lib.ListN.{length, drop, replicate}
 use Rattle.shape.specs.Calls.{answers}
 use Rattle.engine.specs.Calls.{Outcome}
 use Rattle.engine.specs.Fitness.{unfit}
 use Rattle.engine.specs.declared.state.Record.{Record}
-use Rattle.c_words.specs.States.{unpackState}
+use Rattle.c_words.specs.States.{stateWords, unpackState}
 use Rattle.c_entering.specs.Entering.{Lent, lent, Returned, crossing, inWords}
 use Rattle.c_entering.specs.EngineCalls.{neverStartedCall, startCall}
 
@@ -46,3 +46,7 @@ abbrev pub NeverStartedIsUnfitInWords : Type 0
 NeverStartedIsUnfitInWords =
     (l : Lent) → neverStartedCall l .number ≡ 0 → (r : Record) (words : ℕ)
     → unfit (unpackState (neverStartedCall l .lent .state)) r words ≡ true
+
+-- so is one whose words are all 0
+abbrev pub ZeroedIsUnfitInWords : Type 0
+ZeroedIsUnfitInWords = (r : Record) (words : ℕ) → unfit (unpackState (replicate stateWords 0)) r words ≡ true

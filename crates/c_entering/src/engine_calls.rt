@@ -24,7 +24,7 @@ ghost use Rattle.shape.specs.Calls.{outcome};
 ghost use Rattle.layout.specs.Verdict.{meaning};
 ghost use Rattle.engine.specs.Calls.{world};
 ghost use Rattle.starting.specs.Starting.{startSays, flat, start as startRule};
-ghost use Rattle.c_words.specs.States.{unpackRegisters, unpackState, unpackRecord};
+ghost use Rattle.c_words.specs.States.{registerWords, stateWords, unpackRegisters, unpackState, unpackRecord};
 ghost use Rattle.c_entering.specs.Entering.{returned, lent};
 ghost use Rattle.c_entering.specs.EngineCalls.{neverStartedCall, startCall, clearCall, statusCall};
 
@@ -42,7 +42,7 @@ pub fn never_started(state: &mut [u32]) -> u32
 
 // The start of the state, record and registers that stand in these words.
 fn start_of(state: &[u32], recorded: &[u32], mem: &[u32], registers: &[u32]) -> Started
-    requires { ⌜ (length (now state) ≡ 27) × (length (now recorded) ≡ 2) × (14 ≤ length (now registers)) ⌝ }
+    requires { ⌜ (length (now state) ≡ stateWords) × (length (now recorded) ≡ 2) × (registerWords ≤ length (now registers)) ⌝ }
     ensures { λ a. ⌜ outcome (startSays (meaning (a .verdict))) (world (a .state) (a .recorded) (now (mem .entry)))
         (flat (a .sections))
         ≡ startRule (world (unpackState (now (state .entry))) (unpackRecord (now (recorded .entry))) (now (mem .entry)))

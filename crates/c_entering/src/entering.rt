@@ -10,7 +10,7 @@ ghost use mathlib.Core.Path.{_≡_};
 ghost use mathlib.Core.Bool.{_&&_};
 ghost use lib.Dec.{eqb};
 ghost use Rattle.c_words.specs.Frames.{plainFrame};
-ghost use Rattle.c_words.specs.States.{plainRegisters};
+ghost use Rattle.c_words.specs.States.{registerWords, stateWords, plainRegisters};
 ghost use Rattle.c_entering.specs.Entering.{has, entryNumber, sized};
 
 // A lent buffer that has a length of its own has another.
@@ -34,7 +34,7 @@ fn judge(lengths: bool, words: bool) -> u32
 }
 
 fn is_sized(state: usize, recorded: usize) -> bool
-    ensures { λ b. ⌜ b ≡ (eqb state 27 && eqb recorded 2) ⌝ }
+    ensures { λ b. ⌜ b ≡ (eqb state stateWords && eqb recorded 2) ⌝ }
 {
     (state == STATE_WORDS) & (recorded == RECORD_WORDS)
 }
@@ -68,7 +68,7 @@ pub fn enter_frame(
 // Of a start: a state, a record and an answer of so many words, and registers. The old state may be any words.
 pub fn enter_start(state: usize, recorded: usize, registers: &[u32], answer: usize) -> u32
     ensures { λ n. ⌜ n ≡ entryNumber
-        ((eqb state 27 && eqb recorded 2) && (has (now (registers .entry)) 14 && eqb answer 16))
+        ((eqb state stateWords && eqb recorded 2) && (has (now (registers .entry)) registerWords && eqb answer 16))
         (plainRegisters (now (registers .entry))) ⌝ }
 {
     let box_sized = is_sized(state, recorded);

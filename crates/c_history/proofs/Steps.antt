@@ -16,7 +16,7 @@ use Rattle.shape.specs.Refusals.{Refusal, names}
 use Rattle.shape.proofs.Calls.{call-answers}
 use Rattle.registers.specs.declared.Registers.{Registers}
 use Rattle.frame.specs.declared.Frame.{Frame}
-use Rattle.layout.specs.Sections.{memoryWords, sectionsOf}
+use Rattle.layout.specs.Sections.{sectionsOf}
 use Rattle.layout.specs.Verdict.{plain, rules}
 use Rattle.filter.specs.Destination.{Goes, toFifo, toBuffer, discarded, destination}
 use Rattle.engine.specs.Calls.{World, Outcome}
@@ -214,7 +214,7 @@ start-reports : (w : World) (g : Registers) → step w (Handler.start g) .says �
     → step w (Handler.start g) .output ≡ flat (sectionsOf g)
 start-reports w g e =
     ap (λ (o : Outcome (Unit {0})). o .output)
-    (call-answers w unreported (rules memoryWords g (length (w .memory))) (starts w g) tt e .1)
+    (call-answers w unreported (rules g (length (w .memory))) (starts w g) tt e .1)
 
 goes-nowhere : (w : World) (f : Frame) (d : List ℕ) (time : ℕ) (g : Goes) → [] ≡ goesTo w f d time g .output
 unfolding intoFifo intoBuffer intoNothing

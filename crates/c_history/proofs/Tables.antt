@@ -10,7 +10,7 @@ use Rattle.words.proofs.Choices.{and-both}
 use Rattle.books.specs.Lists.{Each}
 use Rattle.c_words.specs.Words.{word, isYesNo}
 use Rattle.c_words.specs.Frames.{plainFrame}
-use Rattle.c_words.specs.States.{plainRegisters}
+use Rattle.c_words.specs.States.{registerWords, stateWords, plainRegisters}
 use Rattle.c_entering.specs.Entering.{Lent, has, sized}
 use Rattle.c_calls.specs.Exported.{FromC, start, receive, readFifo, acknowledgeFifo, readBuffer, releaseBuffer}
 use Rattle.c_calls.specs.Exported.{requestDedicated, requestShared, cancel, askChoice, reportSent, readEvent}
@@ -20,7 +20,7 @@ use Rattle.c_history.specs.Steps.{ownBuffers, frameYesNos, yesNos, every
 -- ---- the tests as the calls make them
 
 abbrev pub ownLengths : List ℕ → FromC → Bool
-ownLengths answer (start registers) = has registers 14 && has answer 16
+ownLengths answer (start registers) = has registers registerWords && has answer 16
 ownLengths answer (receive frame bytes time) = has frame 7 && has answer 16
 ownLengths answer (readFifo fifo place) = has answer 16
 ownLengths answer (acknowledgeFifo fifo place) = true
@@ -82,7 +82,7 @@ frame-yes-nos frame =
 
 own-lengths : (answer : List ℕ) (c : FromC)
     → ownLengths answer c ≡ every (λ (b : List ℕ × ℕ). has (b .0) (b .1)) (ownBuffers answer c)
-own-lengths answer (start registers) = two (has registers 14) (has answer 16)
+own-lengths answer (start registers) = two (has registers registerWords) (has answer 16)
 own-lengths answer (receive frame bytes time) = two (has frame 7) (has answer 16)
 own-lengths answer (readFifo fifo place) = one (has answer 16)
 own-lengths answer (acknowledgeFifo fifo place) = refl
@@ -100,7 +100,7 @@ own-lengths answer reportStatus = one (has answer 16)
 
 pub lengths-tabled : (l : Lent) (c : FromC)
     → (sized (l .state) (l .recorded) && ownLengths (l .answer) c) ≡ haveLengths l c
-lengths-tabled l c = after-two (has (l .state) 27) (has (l .recorded) 2) _ _ (own-lengths (l .answer) c)
+lengths-tabled l c = after-two (has (l .state) stateWords) (has (l .recorded) 2) _ _ (own-lengths (l .answer) c)
 
 -- the state's two, and the call's own after them
 own-words : (ws : List ℕ) (m n : Bool) → m ≡ n

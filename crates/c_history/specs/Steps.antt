@@ -15,7 +15,7 @@ use Rattle.handler.specs.Calls as Handler
 use Rattle.handler.specs.Calls.{Call, given, Answer}
 use Rattle.c_words.specs.Words.{word, saysYes, isYesNo}
 use Rattle.c_words.specs.Frames.{unpackFrame}
-use Rattle.c_words.specs.States.{unpackRegisters}
+use Rattle.c_words.specs.States.{registerWords, stateWords, unpackRegisters}
 use Rattle.c_answers.specs.Answers.{noWords, fateWords, readWords, bufferWords, choiceWords, eventWords, overviewWords}
 use Rattle.c_answers.specs.Back.{fateIn, readIn, bufferIn, choiceIn, eventIn, overviewIn}
 use Rattle.c_entering.specs.Entering.{Lent, Returned, has, inWords}
@@ -48,7 +48,7 @@ callOf out reportStatus = Handler.reportStatus
 
 -- the call's own buffers that have a length of their own, with it
 abbrev pub ownBuffers : List ℕ → FromC → List (List ℕ × ℕ)
-ownBuffers answer (start registers) = (registers, 14) ∷ (answer, 16) ∷ []
+ownBuffers answer (start registers) = (registers, registerWords) ∷ (answer, 16) ∷ []
 ownBuffers answer (receive frame bytes time) = (frame, 7) ∷ (answer, 16) ∷ []
 ownBuffers answer (readFifo fifo place) = (answer, 16) ∷ []
 ownBuffers answer (acknowledgeFifo fifo place) = []
@@ -65,7 +65,7 @@ ownBuffers answer (clearFlags mask) = []
 ownBuffers answer reportStatus = (answer, 16) ∷ []
 
 abbrev pub buffersOf : Lent → FromC → List (List ℕ × ℕ)
-buffersOf l c = (l .state, 27) ∷ (l .recorded, 2) ∷ ownBuffers (l .answer) c
+buffersOf l c = (l .state, stateWords) ∷ (l .recorded, 2) ∷ ownBuffers (l .answer) c
 
 -- the words of registers and of a frame that say yes or no
 abbrev pub switches : List ℕ → List ℕ → List ℕ

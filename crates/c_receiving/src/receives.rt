@@ -17,7 +17,7 @@ ghost use Rattle.engine.specs.Calls.{world};
 ghost use Rattle.receiving.specs.Receive.{meaning as receiveSays, receive as receiveRule};
 ghost use Rattle.c_words.specs.Frames.{unpackFrame};
 ghost use Rattle.c_words.specs.Needs.{BoxWords};
-ghost use Rattle.c_words.specs.States.{unpackState, packState, ComesBack, unpackRecord, packRecord};
+ghost use Rattle.c_words.specs.States.{stateWords, unpackState, packState, ComesBack, unpackRecord, packRecord};
 ghost use Rattle.c_answers.specs.Answers.{resultOf, toldIn, fateWords};
 ghost use Rattle.c_answers.specs.Needs.{FateFits, CanTell};
 ghost use Rattle.c_entering.specs.Entering.{returned, lent};
@@ -51,7 +51,7 @@ fn leave_received(
     answer: &mut [u32],
     after: AfterReceive,
 ) -> u32
-    requires { ⌜ (length (now state) ≡ 27)
+    requires { ⌜ (length (now state) ≡ stateWords)
         × (length (now recorded) ≡ 2)
         × CanTell (now answer) (FateFits (receiveSays (after .answer))) ⌝ }
     ensures { λ n. ⌜ (n ≡ resultOf (receiveSays (after .answer)))

@@ -12,14 +12,14 @@ ghost use lib.Dec.{eqb};
 ghost use lib.ListN.{length};
 ghost use Rattle.words.specs.Choice.{pick};
 ghost use Rattle.requesting.specs.Requesting.{meaning as requestSays};
-ghost use Rattle.c_words.specs.States.{packState};
+ghost use Rattle.c_words.specs.States.{stateWords, packState};
 ghost use Rattle.c_answers.specs.Answers.{resultOf, toldIn, bufferWords};
 ghost use Rattle.c_entering.specs.Entering.{returned, lent};
 ghost use Rattle.c_requesting.specs.RequestingCalls.{requestDedicatedCall, requestSharedCall};
 
 // The answer of a request is told, and the state after it left where it was accepted.
 fn leave_request(state: &mut [u32], answer: &mut [u32], after: AfterRequest) -> u32
-    requires { ⌜ (length (now state) ≡ 27) × (length (now answer) ≡ 16) ⌝ }
+    requires { ⌜ (length (now state) ≡ stateWords) × (length (now answer) ≡ 16) ⌝ }
     ensures { λ n. ⌜ (n ≡ resultOf (requestSays (after .answer)))
         × (now (state .exit) ≡ pick (eqb n 0) (packState (after .state)) (now (state .entry)))
         × (now (answer .exit) ≡ toldIn bufferWords (now (answer .entry)) (requestSays (after .answer))) ⌝ }

@@ -13,6 +13,7 @@ use Rattle.frame.specs.declared.Frame.{Frame}
 use Rattle.engine.specs.States.{emptyState}
 use Rattle.engine.specs.declared.state.State.{State}
 use Rattle.c_words.specs.Words.{word, yesNo, saysYes, isYesNo}
+use Rattle.c_words.specs.States.{registerWords, stateWords, after}
 use Rattle.c_words.specs.States.{plainRegisters, unpackRegisters, packState, unpackState, ComesBack}
 use Rattle.c_words.specs.States.{packRecord, unpackRecord}
 use Rattle.c_words.specs.Needs.{StateWords}
@@ -60,6 +61,7 @@ state-back s = λ i. record {
     buffers = s .regs .buffers;
     fdon = yes-back (s .regs .fdon) i;
     rateon = yes-back (s .regs .rateon) i;
+    memory = s .regs .memory;
   };
   fifo0 = s .fifo0;
   fifo1 = s .fifo1;
@@ -92,21 +94,21 @@ values-come-back = record { state = state-back; recorded = λ r. refl; frame = f
 spelled-out : (ws : List ℕ) (n : ℕ) → length ws ≡ n → run (word ws) 0 n ≡ ws
 spelled-out ws n e = ap (run (word ws) 0) (sym e) ∙ spelled ws
 
-state-forth : (ws : List ℕ) → length ws ≡ 27 → word ws 22 < 2 ^ 32 → plainRegisters ws ≡ true → ComesBack ws
+state-forth : (ws : List ℕ) → length ws ≡ stateWords → after ws 8 < 2 ^ 32 → plainRegisters ws ≡ true → ComesBack ws
 unfolding packState unpackState run
 state-forth ws e low plain =
     let p = and-both (isYesNo (word ws 12)) (isYesNo (word ws 13)) plain in
-    let z : packState (unpackState ws) ≡ run (word ws) 0 27 =
+    let z : packState (unpackState ws) ≡ run (word ws) 0 stateWords =
     cc (
       yes-forth (word ws 12) (p .0),
       yes-forth (word ws 13) (p .1),
-      lower (word ws 22) (word ws 23) low,
-      upper (word ws 22) (word ws 23) low,
+      lower (after ws 8) (after ws 9) low,
+      upper (after ws 8) (after ws 9) low,
     ) in
-    z ∙ spelled-out ws 27 e
+    z ∙ spelled-out ws stateWords e
 
 -- a state that was taken from words
-pub taken : (ws : List ℕ) (s : State) → StateWords ws → word ws 22 < 2 ^ 32 → s ≡ unpackState ws
+pub taken : (ws : List ℕ) (s : State) → StateWords ws → after ws 8 < 2 ^ 32 → s ≡ unpackState ws
     → (s ≡ unpackState ws) × ComesBack ws
 taken ws s h low e = (e, state-forth ws (h .size) low (h .plain))
 
@@ -134,7 +136,7 @@ frame-forth ws e plain =
 
 pub words-come-back : WordsComeBack
 words-come-back = record {
-  state = λ ws e small plain. state-forth ws e (small 22) plain;
+  state = λ ws e small plain. state-forth ws e (small (registerWords + 8)) plain;
   recorded = record-forth;
   frame = frame-forth;
 }
@@ -143,9 +145,9 @@ pub registers-come-first : RegistersComeFirst
 unfolding packState run
 registers-come-first ws e plain =
     let p = and-both (isYesNo (word ws 12)) (isYesNo (word ws 13)) plain in
-    let z : take 14 (packState (emptyState (unpackRegisters ws))) ≡ run (word ws) 0 14 =
+    let z : take registerWords (packState (emptyState (unpackRegisters ws))) ≡ run (word ws) 0 registerWords =
     cc (yes-forth (word ws 12) (p .0), yes-forth (word ws 13) (p .1)) in
-    z ∙ spelled-out ws 14 e
+    z ∙ spelled-out ws registerWords e
 
 pub one-is-yes : OneIsYes
 one-is-yes = (refl, refl)

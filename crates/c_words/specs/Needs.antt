@@ -4,11 +4,11 @@ use mathlib.Core.Path.{_≡_}
 use mathlib.Core.Bool.{true}
 use mathlib.Core.List.{List}
 use lib.ListN.{length}
-use Rattle.c_words.specs.States.{plainRegisters}
+use Rattle.c_words.specs.States.{stateWords, plainRegisters}
 
 -- a state can be taken from these words, and comes back to them
 pub record StateWords (ws : List ℕ) : Type 0 where
-  pub size : length ws ≡ 27
+  pub size : length ws ≡ stateWords
   pub plain : plainRegisters ws ≡ true
 
 -- a state and a record can be taken from these words, and put there

@@ -10,9 +10,16 @@ use Rattle.engine.specs.declared.state.State.{State}
 use Rattle.engine.specs.declared.state.Record.{Record}
 use Rattle.c_words.specs.Words.{word, yesNo, saysYes, isYesNo}
 
--- the registers are words 0 to 13
+-- how many words the registers have, and how many a state has
+abbrev pub registerWords : ℕ
+registerWords = 15
+
+abbrev pub stateWords : ℕ
+stateWords = registerWords + 13
+
+-- the registers: the eleven and the number of Rx buffers; FD on, rate switch on; the memory's length
 abbrev pub unpackRegisters : List ℕ → Registers
-unpackRegisters ws = registersFrom (word ws) (saysYes (word ws 12)) (saysYes (word ws 13))
+unpackRegisters ws = registersFrom (word ws) (saysYes (word ws 12)) (saysYes (word ws 13)) (word ws 14)
 
 -- 12 and 13 say yes or no
 abbrev pub plainRegisters : List ℕ → Bool
@@ -22,19 +29,23 @@ plainRegisters ws = isYesNo (word ws 12) && isYesNo (word ws 13)
 abbrev pub unpackRing : List ℕ → ℕ → Ring
 unpackRing ws n = record { oldest = word ws n; fill = word ws (n + 1) }
 
--- the state is 27 words: the registers; FIFO 0, FIFO 1, events, shared; the new-data bits, 0 to 31 and 32 to 63;
--- pending, sent, cancelled
+-- word n after the registers
+abbrev pub after : List ℕ → ℕ → ℕ
+after ws n = word ws (registerWords + n)
+
+-- a state: the registers; FIFO 0, FIFO 1, events, shared; the new-data bits, 0 to 31 and 32 to 63; pending, sent,
+-- cancelled
 unfoldable pub unpackState : List ℕ → State
 unpackState ws = record {
   regs = unpackRegisters ws;
-  fifo0 = unpackRing ws 14;
-  fifo1 = unpackRing ws 16;
-  events = unpackRing ws 18;
-  shared = unpackRing ws 20;
-  newdata = word ws 22 + word ws 23 * 2 ^ 32;
-  pending = word ws 24;
-  sent = word ws 25;
-  cancelled = word ws 26;
+  fifo0 = unpackRing ws registerWords;
+  fifo1 = unpackRing ws (registerWords + 2);
+  events = unpackRing ws (registerWords + 4);
+  shared = unpackRing ws (registerWords + 6);
+  newdata = after ws 8 + after ws 9 * 2 ^ 32;
+  pending = after ws 10;
+  sent = after ws 11;
+  cancelled = after ws 12;
 }
 
 unfoldable pub packState : State → List ℕ
@@ -53,6 +64,7 @@ packState s =
     ∷ s .regs .buffers
     ∷ yesNo (s .regs .fdon)
     ∷ yesNo (s .regs .rateon)
+    ∷ s .regs .memory
     ∷ s .fifo0 .oldest
     ∷ s .fifo0 .fill
     ∷ s .fifo1 .oldest

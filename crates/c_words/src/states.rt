@@ -11,15 +11,35 @@ ghost use Prim.Native.Nat.{_+_, _*_, _^_, _≤_, _<_};
 ghost use lib.ListN.{length};
 ghost use Rattle.words.specs.Choice.{pick};
 ghost use Rattle.c_words.specs.Needs.{StateWords};
+ghost use Rattle.c_words.specs.States.{registerWords, stateWords};
 ghost use Rattle.c_words.specs.States.{plainRegisters, unpackRegisters, unpackRing, unpackState, packState};
 ghost use Rattle.c_words.specs.States.{ComesBack};
 ghost use Rattle.c_words.specs.States.{unpackRecord, packRecord};
 
-pub const STATE_WORDS: usize = 27;
+pub const REGISTER_WORDS: usize = 15;
+
+pub const STATE_WORDS: usize = REGISTER_WORDS + 13;
 
 pub const RECORD_WORDS: usize = 2;
 
-pub const REGISTER_WORDS: usize = 14;
+// What follows the registers in a state, by its first word.
+const FIFO0_AT: usize = REGISTER_WORDS;
+
+const FIFO1_AT: usize = REGISTER_WORDS + 2;
+
+const EVENTS_AT: usize = REGISTER_WORDS + 4;
+
+const SHARED_AT: usize = REGISTER_WORDS + 6;
+
+const NEW_DATA_LOW_AT: usize = REGISTER_WORDS + 8;
+
+const NEW_DATA_HIGH_AT: usize = REGISTER_WORDS + 9;
+
+const PENDING_AT: usize = REGISTER_WORDS + 10;
+
+const SENT_AT: usize = REGISTER_WORDS + 11;
+
+const CANCELLED_AT: usize = REGISTER_WORDS + 12;
 
 // The two words that say yes or no are 0 or 1.
 pub fn is_plain_registers(words: &[u32]) -> bool
@@ -31,10 +51,10 @@ pub fn is_plain_registers(words: &[u32]) -> bool
 }
 
 pub fn take_registers(words: &[u32]) -> Registers
-    requires { ⌜ 14 ≤ length (now words) ⌝ }
+    requires { ⌜ registerWords ≤ length (now words) ⌝ }
     ensures { λ r. ⌜ r ≡ unpackRegisters (now (words .entry)) ⌝ }
 {
-    Registers::from_words(words, words[12] == 1, words[13] == 1)
+    Registers::from_words(words, words[12] == 1, words[13] == 1, words[14])
 }
 
 fn take_ring(words: &[u32], at: usize) -> Ring
@@ -56,24 +76,24 @@ fn joined(low: u32, high: u32) -> u64
 
 // The state that stands in any words; another word than 1 says no.
 pub fn take_any_state(words: &[u32]) -> State
-    requires { ⌜ length (now words) ≡ 27 ⌝ }
+    requires { ⌜ length (now words) ≡ stateWords ⌝ }
     ensures { λ s. ⌜ s ≡ unpackState (now (words .entry)) ⌝ }
 {
     let regs = take_registers(words);
-    let fifo0 = take_ring(words, 14);
-    let fifo1 = take_ring(words, 16);
-    let events = take_ring(words, 18);
-    let shared = take_ring(words, 20);
+    let fifo0 = take_ring(words, FIFO0_AT);
+    let fifo1 = take_ring(words, FIFO1_AT);
+    let events = take_ring(words, EVENTS_AT);
+    let shared = take_ring(words, SHARED_AT);
     State {
         regs,
         fifo0,
         fifo1,
         events,
         shared,
-        newdata: joined(words[22], words[23]),
-        pending: words[24],
-        sent: words[25],
-        cancelled: words[26],
+        newdata: joined(words[NEW_DATA_LOW_AT], words[NEW_DATA_HIGH_AT]),
+        pending: words[PENDING_AT],
+        sent: words[SENT_AT],
+        cancelled: words[CANCELLED_AT],
     }
 }
 
@@ -85,7 +105,7 @@ pub fn take_state(words: &[u32]) -> State
     take_any_state(words)
 }
 
-fn pack_state(s: State) -> [u32; 27]
+fn pack_state(s: State) -> [u32; STATE_WORDS]
     ensures { λ ws. ⌜ ws ≡ packState s ⌝ }
 {
     let fdon = bit_of(s.regs.fdon);
@@ -105,6 +125,7 @@ fn pack_state(s: State) -> [u32; 27]
         s.regs.buffers,
         fdon,
         rateon,
+        s.regs.memory,
         s.fifo0.oldest,
         s.fifo0.fill,
         s.fifo1.oldest,
@@ -122,7 +143,7 @@ fn pack_state(s: State) -> [u32; 27]
 }
 
 pub fn put_state(words: &mut [u32], s: State)
-    requires { ⌜ length (now words) ≡ 27 ⌝ }
+    requires { ⌜ length (now words) ≡ stateWords ⌝ }
     ensures { λ _. ⌜ now (words .exit) ≡ packState s ⌝ }
 {
     let packed = pack_state(s);
@@ -148,7 +169,7 @@ fn put_record(words: &mut [u32], r: Record)
 
 // Leaves a state where the call was accepted: a refused one stores nothing.
 pub fn leave_state(accepted: bool, words: &mut [u32], s: State)
-    requires { ⌜ length (now words) ≡ 27 ⌝ }
+    requires { ⌜ length (now words) ≡ stateWords ⌝ }
     ensures { λ _. ⌜ now (words .exit) ≡ pick accepted (packState s) (now (words .entry)) ⌝ }
 {
     if accepted {
@@ -168,7 +189,7 @@ pub fn leave_record(accepted: bool, words: &mut [u32], r: Record)
 
 // The same of both.
 pub fn leave_both(accepted: bool, state: &mut [u32], recorded: &mut [u32], s: State, r: Record)
-    requires { ⌜ (length (now state) ≡ 27) × (length (now recorded) ≡ 2) ⌝ }
+    requires { ⌜ (length (now state) ≡ stateWords) × (length (now recorded) ≡ 2) ⌝ }
     ensures { λ _. ⌜ (now (state .exit) ≡ pick accepted (packState s) (now (state .entry)))
         × (now (recorded .exit) ≡ pick accepted (packRecord r) (now (recorded .entry))) ⌝ }
 {

@@ -1,4 +1,4 @@
--- A state that was never started is unfit; clearing flags keeps a state fit.
+-- A state with a length of 0 is unfit, so one that was never started; clearing flags keeps a state fit.
 -- Assumes nothing.
 use Prim.Native.Nat.{ℕ, _-_, _^_}
 use mathlib.Core.Path.{_≡_, refl}
@@ -8,20 +8,21 @@ use Rattle.words.specs.Bits.{withoutMask}
 use Rattle.words.proofs.Bits.{bit-and}
 use Rattle.engine.specs.Fitness.{unfit}
 use Rattle.engine.specs.Flags.{cleared}
-use Rattle.engine.specs.Promises.{NeverStartedIsUnfit}
+use Rattle.engine.specs.Promises.{NoLengthIsUnfit, NeverStartedIsUnfit}
 use Rattle.engine.specs.States.{neverStarted}
 use Rattle.engine.specs.declared.state.State.{State}
 use Rattle.engine.specs.declared.state.Record.{Record}
 use Rattle.engine.proofs.Sounds.{sound-of, flags-of, fit-of}
 
-pub never-started-is-unfit : NeverStartedIsUnfit
-never-started-is-unfit r words = go (unfit neverStarted r words) refl
+pub no-length-is-unfit : NoLengthIsUnfit
+no-length-is-unfit s r words none = go (unfit s r words) refl
   where
-    go : (b : Bool) → unfit neverStarted r words ≡ b → b ≡ true
+    go : (b : Bool) → unfit s r words ≡ b → b ≡ true
     go true e = refl
-    go false e =
-        let z : _≡_ {A = ℕ} 1 0 = sound-of neverStarted r words e .legal .named .gfc 31 refl in
-        absurd (omega arith)
+    go false e = absurd (omega (arith, sound-of s r words e .legal .memory .some))
+
+pub never-started-is-unfit : NeverStartedIsUnfit
+never-started-is-unfit r words = no-length-is-unfit neverStarted r words refl
 
 pub cleared-fit : (s : State) (r : Record) (words mask : ℕ) → unfit s r words ≡ false
     → unfit s (cleared r mask) words ≡ false

@@ -22,7 +22,6 @@ use Rattle.ring.specs.declared.Ring.{Ring}
 use Rattle.ring.proofs.Fitness.{fit-of-fits, fits-of-fit}
 use Rattle.registers.specs.Kinds.{field, rxfcCount}
 use Rattle.registers.specs.declared.Registers.{Registers}
-use Rattle.layout.specs.Sections.{memoryWords}
 use Rattle.shape.specs.Refusals.{Refusal}
 use Rattle.layout.specs.Verdict.{meaning, verdict}
 use Rattle.layout.specs.declared.check.Verdict.{Verdict}
@@ -90,13 +89,13 @@ module _ (s : State) where
       )
 
   -- the shared places can be looked at where the layout is accepted and the rings fit
-  pub shared-can : (words : ℕ) (v : Verdict) → meaning v ≡ verdict memoryWords (s .regs) words → (a b : Bool)
+  pub shared-can : (words : ℕ) (v : Verdict) → meaning v ≡ verdict (s .regs) words → (a b : Bool)
       → a ≡ isAllowed (meaning v) → a ≡ true → b ≡ ringsUnfit s → b ≡ false → SharedCan s
   shared-can words v e a b t y q n = record {
     ring = rings-of (sym q ∙ n) .3;
     few =
-        accepted-is-legal memoryWords (s .regs) words .0
-        (is-allowed (verdict memoryWords (s .regs) words) (sym (t ∙ ap isAllowed e) ∙ y)) .counted .together;
+        accepted-is-legal (s .regs) words .0
+        (is-allowed (verdict (s .regs) words) (sym (t ∙ ap isAllowed e) ∙ y)) .counted .together;
   }
 
   held-of : sharedUnfit s ≡ false → (p : ℕ) → p < sharedRingSize (s .regs)
@@ -149,9 +148,9 @@ module _ (s : State) (r : Record) (words : ℕ) where
       let a = or-neither (past (s .pending) (txCount (s .regs))) (past (s .sent) (txCount (s .regs))) (b .0) in
       record {
         legal =
-            accepted-is-legal memoryWords (s .regs) words .0
-            (is-allowed (verdict memoryWords (s .regs) words)
-            (not-false (isAllowed (verdict memoryWords (s .regs) words)) (p .0)));
+            accepted-is-legal (s .regs) words .0
+            (is-allowed (verdict (s .regs) words)
+            (not-false (isAllowed (verdict (s .regs) words)) (p .0)));
         fifo0 = q .0;
         fifo1 = q .1;
         events = q .2;
@@ -173,7 +172,7 @@ module _ (s : State) (r : Record) (words : ℕ) where
   unfolding unfit agrees below32
   fit-of h f =
       let a : registersUnfit (s .regs) words ≡ false =
-      ap (λ (v : Ruling Refusal). not (isAllowed v)) (accepted-is-legal memoryWords (s .regs) words .1 (h .legal)) in
+      ap (λ (v : Ruling Refusal). not (isAllowed v)) (accepted-is-legal (s .regs) words .1 (h .legal)) in
       let b : ringsUnfit s ≡ false =
       ap₂ _||_
       (ap₂ _||_

@@ -11,7 +11,6 @@ use lib.Pow.{pow-mono}
 use Rattle.words.specs.Least.{leastFrom}
 use Rattle.words.specs.Rules.{isAllowed}
 use Rattle.words.proofs.Lowest.{look-found, look-on, look-done}
-use Rattle.layout.specs.Sections.{memoryWords}
 use Rattle.layout.specs.Verdict.{meaning, verdict}
 use Rattle.layout.specs.declared.check.Verdict.{Verdict}
 use Rattle.engine.specs.Fitness.{sharedRingSize, past, registersUnfit, ringsUnfit, bitsUnfit, differs}
@@ -52,7 +51,7 @@ module _ (s : State) (size p : ℕ) (e : size ≡ sharedRingSize (s .regs)) (lef
 any-true : (a b c : Bool) → a ≡ true → true ≡ (a || b || c)
 any-true a b c e = sym (ap (λ (x : Bool). x || b || c) e)
 
-module _ (s : State) (r : Record) (words : ℕ) (v : Verdict) (e : meaning v ≡ verdict memoryWords (s .regs) words)
+module _ (s : State) (r : Record) (words : ℕ) (v : Verdict) (e : meaning v ≡ verdict (s .regs) words)
     (a : Bool) (t : a ≡ isAllowed (meaning v)) where
   registers : registersUnfit (s .regs) words ≡ not a
   registers = ap not (sym (t ∙ ap isAllowed e))

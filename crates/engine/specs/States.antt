@@ -26,7 +26,7 @@ emptyState regs = record {
 abbrev pub noFlags : Record
 noFlags = record { flags = 0; priority = 0 }
 
--- registers of 0, but for a GFC that no start accepts
+-- registers of 0, but for a GFC that no start accepts, and no memory
 abbrev pub neverStarted : State
 neverStarted =
     emptyState
@@ -45,6 +45,7 @@ neverStarted =
       buffers = 0;
       fdon = false;
       rateon = false;
+      memory = 0;
     })
 
 -- the ring of FIFO 0 or 1

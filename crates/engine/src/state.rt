@@ -54,6 +54,7 @@ impl State {
             &[0, 0, 0, 0, 0, 0, 0, 0, 0, 0xffff_ffff, 0, 0],
             false,
             false,
+            0,
         ))
     }
 

@@ -11,7 +11,7 @@ use Rattle.shape.specs.Refusals.{Refusal}
 use Rattle.shape.proofs.Calls.{call-done}
 use Rattle.registers.specs.Fields.{fifoWord, fifoCode}
 use Rattle.registers.specs.declared.Registers.{Registers}
-use Rattle.layout.specs.Sections.{section, memoryWords}
+use Rattle.layout.specs.Sections.{section}
 use Rattle.layout.specs.Verdict.{meaning, partner, rules}
 use Rattle.engine.specs.Calls.{world, Outcome}
 use Rattle.engine.specs.declared.state.State.{State}
@@ -23,9 +23,9 @@ use Rattle.handler.specs.Claims.{Claim}
 use Rattle.handler.specs.Stars.{caseA}
 
 abbrev A : Registers
-A = caseA 0x00040260 0x06020428
+A = caseA 2560 0x00040260 0x06020428
 
-none-refuses : first (rules memoryWords A 2560) ≡ allowed
+none-refuses : first (rules A 2560) ≡ allowed
 unfolding leastFrom partner section fifoWord fifoCode
 none-refuses = refl
 
@@ -33,8 +33,8 @@ pub accepted : (old : State) (recorded : Record) (mem : List ℕ) (g : Registers
     → Claim (world old recorded mem) (start g) r → length mem ≡ 2560 → startSays (meaning (r .verdict)) ≡ done
 accepted old recorded mem g r e claim size =
     let w = world old recorded mem in
-    let allows : first (rules memoryWords A (length mem)) ≡ allowed =
-    ap (λ (n : ℕ). first (rules memoryWords A n)) size ∙ none-refuses in
+    let allows : first (rules A (length mem)) ≡ allowed =
+    ap (λ (n : ℕ). first (rules A n)) size ∙ none-refuses in
     ap (λ (o : Outcome (Unit {0})). o .says)
     (claim ∙ ap (λ (h : Registers). step w (start h)) e
-    ∙ call-done w unreported (rules memoryWords A (length mem)) (starts w A) allows)
+    ∙ call-done w unreported (rules A (length mem)) (starts w A) allows)

@@ -24,10 +24,10 @@ ghost use Rattle.handler.specs.Stars.{caseA};
 // The size code of 64 data bytes.
 const BYTES_64: u32 = 7;
 
-// 4 and 2 filters, FIFOs of 8 and 4 elements, 5 Rx buffers, 4 events, 2 dedicated and 6 shared Tx buffers: the words
-// are those that document 01 gives.
+// 4 and 2 filters, FIFOs of 8 and 4 elements, 5 Rx buffers, 4 events, 2 dedicated and 6 shared Tx buffers, in 2,560
+// words: the registers' words are those that document 01 gives.
 pub fn registers() -> Registers
-    ensures { λ g. ⌜ g ≡ caseA 0x00040260 0x06020428 ⌝ }
+    ensures { λ g. ⌜ g ≡ caseA 2560 0x00040260 0x06020428 ⌝ }
 {
     let mut g = Registers::reset();
     g.sidfc = Sidfc::new(4, WordAddress(0));
@@ -42,6 +42,7 @@ pub fn registers() -> Registers
     g.gfc = Gfc::new(0, 0, false, false);
     g.xidam = Xidam::new(Xidam::RESET);
     g.buffers = 5;
+    g.memory = 2560;
     g
 }
 

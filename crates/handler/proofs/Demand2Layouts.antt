@@ -12,7 +12,7 @@ use Rattle.shape.specs.Refusals.{Refusal, Refusals}
 use Rattle.shape.proofs.Calls.{call-done, call-refused, call-says, call-answers}
 use Rattle.registers.specs.declared.Registers.{Registers}
 use Rattle.layout.specs.Promises.{Refuses}
-use Rattle.layout.specs.Sections.{memoryWords, none, sectionsOf}
+use Rattle.layout.specs.Sections.{none, sectionsOf}
 use Rattle.layout.specs.Verdict.{rules, verdict}
 use Rattle.layout.specs.declared.sections.Section.{Section}
 use Rattle.layout.proofs.Accepted.{accepted-is-legal, verdict-rules}
@@ -59,19 +59,19 @@ flat-words (s ∷ ss) (suc i) =
 
 module _ (w : World) (g : Registers) where
   abbrev rows : Refusals
-  rows = rules memoryWords g (length (w .memory))
+  rows = rules g (length (w .memory))
 
-  turned : (a : Refusal) → step w (start g) .says ≡ refuses a → verdict memoryWords g (length (w .memory)) ≡ refused a
+  turned : (a : Refusal) → step w (start g) .says ≡ refuses a → verdict g (length (w .memory)) ≡ refused a
   turned a e =
-      verdict-rules memoryWords g (length (w .memory)) ∙ call-says w unreported rows (starts w g) (first rows) refl a e
+      verdict-rules g (length (w .memory)) ∙ call-says w unreported rows (starts w g) (first rows) refl a e
 
-  turns : (a : Refusal) → verdict memoryWords g (length (w .memory)) ≡ refused a → step w (start g) .says ≡ refuses a
+  turns : (a : Refusal) → verdict g (length (w .memory)) ≡ refused a → step w (start g) .says ≡ refuses a
   turns a e =
       ap (λ (o : Outcome (Unit {0})). o .says)
-      (call-refused w unreported rows (starts w g) a (sym (verdict-rules memoryWords g (length (w .memory))) ∙ e))
+      (call-refused w unreported rows (starts w g) a (sym (verdict-rules g (length (w .memory))) ∙ e))
 
-  exact : Refuses (λ a. verdict memoryWords g (length (w .memory)) ≡ refused a) memoryWords g (length (w .memory))
-  exact = verdicts-are-exact memoryWords g (length (w .memory))
+  exact : Refuses (λ a. verdict g (length (w .memory)) ≡ refused a) g (length (w .memory))
+  exact = verdicts-are-exact g (length (w .memory))
 
   output-is : step w (start g) .says ≡ done → step w (start g) .output ≡ flat (sectionsOf g)
   output-is e = ap (λ (o : Outcome (Unit {0})). o .output) (call-answers w unreported rows (starts w g) tt e .1)
@@ -79,12 +79,12 @@ module _ (w : World) (g : Registers) where
   pub layouts-told : Starts w g
   layouts-told = record {
     accepted = (
-      λ e. accepted-is-legal memoryWords g (length (w .memory)) .0
-          (verdict-rules memoryWords g (length (w .memory)) ∙ call-answers w unreported rows (starts w g) tt e .0),
+      λ e. accepted-is-legal g (length (w .memory)) .0
+          (verdict-rules g (length (w .memory)) ∙ call-answers w unreported rows (starts w g) tt e .0),
       λ l. ap (λ (o : Outcome (Unit {0})). o .says)
           (call-done w unreported rows (starts w g)
-          (sym (verdict-rules memoryWords g (length (w .memory)))
-          ∙ accepted-is-legal memoryWords g (length (w .memory)) .1 l)),
+          (sym (verdict-rules g (length (w .memory)))
+          ∙ accepted-is-legal g (length (w .memory)) .1 l)),
     );
     sections = λ e i h.
         rw (output-is e, flat-start (sectionsOf g) i, flat-words (sectionsOf g) i) (section-reported g i h);

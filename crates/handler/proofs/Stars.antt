@@ -1,4 +1,4 @@
--- The ★ table, computed from the definitions.
+-- The ★ table and the table of lengths, computed from the definitions.
 -- Assumes nothing.
 use mathlib.Core.Path.{refl}
 use Rattle.words.specs.Least.{leastFrom}
@@ -41,5 +41,7 @@ unfolding call verdict leastFrom partner section unfit fits held age sharedUnfit
     dedicatedRefusals requests written withBit withoutMask
     choiceRefusals outputRefusals chooses choice bestBelow isCandidate frameIn txHeaderIn asSent
     sentFrom sentByte byteIn
-stars-hold =
-    (refl, (refl, (refl, (refl, (refl, (refl, (refl, (refl, (refl, (refl, (refl, (refl, (refl, (refl, tt))))))))))))))
+stars-hold = (
+  (refl, (refl, (refl, (refl, (refl, (refl, (refl, (refl, (refl, (refl, (refl, (refl, (refl, (refl, tt)))))))))))))),
+  (refl, (refl, (refl, (refl, (refl, (refl, tt)))))),
+)

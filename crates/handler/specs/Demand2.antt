@@ -19,7 +19,6 @@ use Rattle.frame.specs.declared.Matched.{Matched}
 use Rattle.frame.specs.declared.Matched.the-variants.{Nothing, Filter}
 use Rattle.layout.specs.Legal.{Has, Legal}
 use Rattle.layout.specs.Promises.{Refuses}
-use Rattle.layout.specs.Sections.{memoryWords}
 use Rattle.element.specs.Fitting.{anmfOf, indexOf}
 use Rattle.element.specs.Promises.{AreBytes}
 use Rattle.element.specs.declared.RxRead.{RxRead}
@@ -49,12 +48,12 @@ pub record Reported (g : Registers) (i first count : ℕ) : Type 0 where
   pub absent : count ≡ 0 → first ≡ 0
 
 pub record Starts (w : World) (g : Registers) : Type 0 where
-  pub accepted : (step w (start g) .says ≡ done) ↔ Legal memoryWords g (length (w .memory))
+  pub accepted : (step w (start g) .says ≡ done) ↔ Legal g (length (w .memory))
   -- words 2i and 2i + 1 of the output report section i
   pub sections : step w (start g) .says ≡ done → (i : ℕ) → i < 7 → let out = step w (start g) .output in
       Reported g i (getD out (2 * i) 0) (getD out (2 * i + 1) 0)
   -- when each refusal is given, exactly, and which sections it names
-  pub refused : Refuses (λ a. step w (start g) .says ≡ refuses a) memoryWords g (length (w .memory))
+  pub refused : Refuses (λ a. step w (start g) .says ≡ refuses a) g (length (w .memory))
 
 -- ---- received frames: the first filter that matches decides, else the no-match rule; of the memory that one element
 -- changes and nothing else

@@ -7,10 +7,10 @@ use lib.ListN.{length}
 use Rattle.words.specs.Least.{leastFrom}
 use Rattle.words.specs.Rules.{Ruling, refuseIf}
 use Rattle.shape.specs.Refusals.{Refusal, names, Refusals}
-use Rattle.registers.specs.Fields.{dedicated, shared}
+use Rattle.registers.specs.Fields.{memoryWords, dedicated, shared}
 use Rattle.registers.specs.Given.{allNamed}
 use Rattle.frame.specs.Malformed.{malformed}
-use Rattle.layout.specs.Sections.{memoryWords, sectionsOf}
+use Rattle.layout.specs.Sections.{sectionsOf}
 use Rattle.layout.specs.Verdict.{plain, over, past, partner, hasPartner}
 use Rattle.engine.specs.Buffers.{noTxBuffer, isPending, inSharedFifo}
 use Rattle.engine.specs.Calls.{World, isUnfit}
@@ -47,12 +47,13 @@ rows w c =
     let r = g .registers in
     let words = length (w .memory) in
     let ss = sectionsOf r in
+    let end = firstWith (past (memoryWords r) ss) in
     let pair = firstWith (hasPartner ss) in
-    row g 10 (1 ∷ []) (not (eqb words memoryWords))
+    row g 10 (1 ∷ []) (eqb (memoryWords r) 0 || ltb 4352 (memoryWords r) || not (eqb words (memoryWords r)))
     ∷ row g 11 (1 ∷ []) (not (allNamed r))
     ∷ naming g (names 12 (firstWith (over r)) 7) (1 ∷ []) (ltb (firstWith (over r)) 7)
     ∷ row g 13 (1 ∷ []) (ltb 32 (dedicated r + shared r))
-    ∷ naming g (names 14 (firstWith (past words ss)) 7) (1 ∷ []) (ltb (firstWith (past words ss)) 7)
+    ∷ naming g (names 14 end 7) (1 ∷ []) (ltb end 7)
     ∷ naming g (names 15 pair (partner ss pair)) (1 ∷ []) (ltb pair 7)
     ∷ row g 20 allButStart (isUnfit w)
     ∷ row g 21 (2 ∷ 7 ∷ 8 ∷ []) (malformed (g .frame) (g .bytes))

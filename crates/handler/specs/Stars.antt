@@ -1,4 +1,5 @@
--- The paper's ★ cases: one table, one claim. In each row the calls and the rules give what the paper says.
+-- The paper's ★ cases, and the lengths of a memory: two tables, one claim. In each row the calls and the rules give
+-- what the paper says.
 use Prim.Native.Nat.{ℕ, _-_}
 use mathlib.Core.Path.{_≡_}
 use mathlib.Core.Bool.{Bool, true, false}
@@ -12,11 +13,10 @@ use Rattle.frame.specs.Arbitration.{rankOf}
 use Rattle.frame.specs.Sizes.{elementWords}
 use Rattle.frame.specs.declared.Frame.{Frame}
 use Rattle.frame.specs.declared.Matched.the-variants.{Nothing, Filter}
-use Rattle.layout.specs.Sections.{memoryWords}
 use Rattle.filter.specs.Destination.{reason}
 use Rattle.filter.specs.declared.Reason.the-variants.{Reject}
 use Rattle.engine.specs.Calls.{World, world}
-use Rattle.engine.specs.States.{emptyState, noFlags}
+use Rattle.engine.specs.States.{emptyState, neverStarted, noFlags}
 use Rattle.receiving.specs.Receive.{Fate, stored, storedBuffer, dropped}
 use Rattle.choosing.specs.Choosing.{Next, none, send}
 use Rattle.handler.specs.Calls.{start, receive, requestDedicated, askChoice, step}
@@ -33,7 +33,7 @@ _gives_ {A = A} rules paper = record { Kind = A; rules = rules; paper = paper }
 
 -- an engine just started, and a memory of 2,560 words that begins with these
 abbrev pub startedWith : Registers → List ℕ → World
-startedWith g ws = world (emptyState g) noFlags (ws ++ replicate (memoryWords - length ws) 0)
+startedWith g ws = world (emptyState g) noFlags (ws ++ replicate (2560 - length ws) 0)
 
 -- data and remote frames without data, and FD frames with rate switch
 abbrev pub classic : Bool → Bool → ℕ → Frame
@@ -42,10 +42,10 @@ classic xtd rtr id = record { id = id; xtd = xtd; rtr = rtr; fdf = false; brs = 
 abbrev pub fast : ℕ → ℕ → Frame
 fast id dlc = record { id = id; xtd = false; rtr = false; fdf = true; brs = true; esi = false; dlc = dlc }
 
--- ---- case A: what a start says, with RXF1C and TXBC to be set
+-- ---- case A: what a start says, with the given length, RXF1C and TXBC to be set, and the memory's own length
 
-abbrev pub caseA : ℕ → ℕ → Registers
-caseA rxf1c txbc = record {
+abbrev pub caseA : ℕ → ℕ → ℕ → Registers
+caseA given rxf1c txbc = record {
   sidfc = record { word = 0x00040000 };
   xidfc = record { word = 0x00020010 };
   rxf0c = record { word = 0x00080020 };
@@ -60,10 +60,12 @@ caseA rxf1c txbc = record {
   buffers = 5;
   fdon = false;
   rateon = false;
+  memory = given;
 }
 
-abbrev pub layoutA : ℕ → ℕ → Says (Unit {0})
-layoutA rxf1c txbc = step (startedWith (caseA 0 0) []) (start (caseA rxf1c txbc)) .says
+abbrev pub layoutA : ℕ → ℕ → ℕ → ℕ → Says (Unit {0})
+layoutA given lent rxf1c txbc =
+    step (world neverStarted noFlags (replicate lent 0)) (start (caseA given rxf1c txbc)) .says
 
 -- ---- case B: what a receive answers to a frame of an 11-bit identifier, with case A's layout and four filters
 
@@ -72,7 +74,7 @@ filtersB = 0x18160020 ∷ 0x50150120 ∷ 0x39300004 ∷ 0x8F0007CF ∷ []
 
 abbrev pub receiveB : ℕ → Says Fate
 receiveB id =
-    step (startedWith (caseA 0x00040260 0x06020428) filtersB) (receive (classic false false id) [] 0) .says
+    step (startedWith (caseA 2560 0x00040260 0x06020428) filtersB) (receive (classic false false id) [] 0) .says
 
 -- ---- elements of a size code: one in FIFO 0 from word 8 on, one dedicated Tx buffer from word 32 on, three filters;
 -- FD and rate switch are on
@@ -93,6 +95,7 @@ ofSize code = record {
   buffers = 0;
   fdon = true;
   rateon = true;
+  memory = 2560;
 }
 
 -- the element's words after a receive: filters 0 and 1 are off, and 2 sends 0x123 to FIFO 0
@@ -114,13 +117,13 @@ bytesSent code f d =
     let o = step pending (askChoice false (replicate 64 0)) in
     toSend (o .says) (o .output)
 
--- ---- the table
+-- ---- the tables
 
 abbrev pub stars : List Star
 stars =
-    layoutA 0x0004025C 0x06020428 gives refuses (names 15 2 3)
-    ∷ layoutA 0x00040260 0x060225C0 gives done
-    ∷ layoutA 0x00040260 0x060225C4 gives refuses (names 14 6 7)
+    layoutA 2560 2560 0x0004025C 0x06020428 gives refuses (names 15 2 3)
+    ∷ layoutA 2560 2560 0x00040260 0x060225C0 gives done
+    ∷ layoutA 2560 2560 0x00040260 0x060225C4 gives refuses (names 14 6 7)
     ∷ receiveB 0x15 gives answers (stored 1 0 (Filter 1))
     ∷ receiveB 0x16 gives answers (dropped (reason Reject) (Filter 0))
     ∷ receiveB 0x20 gives answers (dropped (reason Reject) (Filter 0))
@@ -136,10 +139,21 @@ stars =
     gives (1 ∷ 2 ∷ 3 ∷ 4 ∷ 5 ∷ 6 ∷ 7 ∷ 8 ∷ 0xCC ∷ 0xCC ∷ 0xCC ∷ 0xCC ∷ [])
     ∷ []
 
+-- case A on memories of other lengths than the bench's
+abbrev pub lengths : List Star
+lengths =
+    layoutA 4352 4352 0x00040260 0x060225C4 gives done
+    ∷ layoutA 4352 4352 0x00040260 0x060241C0 gives done
+    ∷ layoutA 4352 4352 0x00040260 0x060241C4 gives refuses (names 14 6 7)
+    ∷ layoutA 0 0 0x00040260 0x06020428 gives refuses (names 10 7 7)
+    ∷ layoutA 4353 4353 0x00040260 0x06020428 gives refuses (names 10 7 7)
+    ∷ layoutA 2560 4352 0x00040260 0x06020428 gives refuses (names 10 7 7)
+    ∷ []
+
 -- every row holds
 abbrev pub Hold : List Star → Type 0
 Hold [] = Unit {0}
 Hold (s ∷ ss) = (s .rules ≡ s .paper) × Hold ss
 
 abbrev pub StarsHold : Type 0
-StarsHold = Hold stars
+StarsHold = Hold stars × Hold lengths

@@ -10,7 +10,6 @@ use Rattle.words.proofs.Ranges.{only-apart}
 use Rattle.ring.specs.declared.Ring.{Ring}
 use Rattle.registers.specs.declared.Registers.{Registers}
 use Rattle.layout.specs.Legal.{Legal}
-use Rattle.layout.specs.Sections.{memoryWords}
 use Rattle.places.specs.Areas.{areaRange}
 use Rattle.places.specs.declared.Area.{Area}
 use Rattle.places.proofs.Stores.{element-kept}
@@ -32,7 +31,7 @@ use Rattle.history.proofs.Sections.{rest-kept}
 
 -- ---- a change in section 2 + i leaves the others
 
-module _ (g : Registers) (mem next : List ℕ) (legal : Legal memoryWords g (length mem))
+module _ (g : Registers) (mem next : List ℕ) (legal : Legal g (length mem))
     (i : ℕ) (own-i : i < 5) (kept : OnlyIn (areaRange (own g i)) mem next) where
   pub ring-elsewhere : (j : ℕ) → j < 5 → (i ≡ j → ⊥) → (l : Ledger) (q : Ring) → RingAgrees (own g j) l q mem
       → RingAgrees (own g j) l q next
@@ -69,7 +68,7 @@ module _ (g : Registers) (mem next : List ℕ) (legal : Legal memoryWords g (len
 -- ---- one part changes
 
 module _ (g : Registers) (began : List ℕ) (b : Book) (s : State) (mem : List ℕ)
-    (legal : Legal memoryWords g (length mem)) (h : BookAgrees g began b s mem) (next : List ℕ) where
+    (legal : Legal g (length mem)) (h : BookAgrees g began b s mem) (next : List ℕ) where
   -- FIFO 0 or 1
   pub fifo-agreed : (fifo : ℕ) → fifo ≤ 1 → (l : Ledger) (q : Ring) → OnlyIn (areaRange (fifoArea g fifo)) mem next
       → RingAgrees (fifoArea g fifo) l q next → BookAgrees g began (withFifoLedger b fifo l) (withFifo s fifo q) next

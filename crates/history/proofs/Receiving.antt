@@ -19,7 +19,6 @@ use Rattle.frame.specs.declared.Matched.the-variants.{Filter}
 use Rattle.registers.specs.Fields.{fifoSize, overwrites, buffers}
 use Rattle.registers.specs.declared.Registers.{Registers}
 use Rattle.layout.specs.Legal.{Legal}
-use Rattle.layout.specs.Sections.{memoryWords}
 use Rattle.filter.specs.Destination.{Goes, toFifo, toBuffer, discarded, destination}
 use Rattle.filter.specs.Promises.{Within}
 use Rattle.filter.proofs.Bounds.{destination-is-within}
@@ -80,7 +79,7 @@ module _ (began : List ℕ) (b : Book) (w : World) (fit : isUnfit w ≡ false)
   abbrev Kept : (c : Call) → Outcome (Answer c) → Type 0
   Kept c o = BookAgrees g began (note g b c (o .says)) (o .world .state) (o .world .memory)
 
-  legal : Legal memoryWords g (length mem)
+  legal : Legal g (length mem)
   legal = sound-of (w .state) (w .recorded) (length mem) fit .legal
 
   -- ---- receive

@@ -14,7 +14,6 @@ use Rattle.words.proofs.Bits.{bit-of-zero}
 use Rattle.frame.specs.declared.Frame.{Frame}
 use Rattle.registers.specs.declared.Registers.{Registers}
 use Rattle.layout.specs.Legal.{Legal}
-use Rattle.layout.specs.Sections.{memoryWords}
 use Rattle.layout.specs.Verdict.{verdict, rules}
 use Rattle.layout.proofs.Accepted.{accepted-is-legal}
 use Rattle.filter.specs.Destination.{Goes, destination}
@@ -44,7 +43,7 @@ use Rattle.history.proofs.Steps.{InRun, Standing, step-told, step-kept}
 
 -- ---- the start
 
-agreed-start : (g : Registers) (mem : List ℕ) → Legal memoryWords g (length mem)
+agreed-start : (g : Registers) (mem : List ℕ) → Legal g (length mem)
     → BookAgrees g mem emptyBook (emptyState g) mem
 unfolding fifoLedger fifoRing
 agreed-start g mem legal = record {
@@ -70,12 +69,12 @@ standing-start : (w : World) (g : Registers) → step w (start g) .says ≡ done
     → Standing g (w .memory) emptyBook (step w (start g) .world)
 standing-start w g e =
     let words = length (w .memory) in
-    let p = call-answers w unreported (rules memoryWords g words) (starts w g) tt e in
-    let v : verdict memoryWords g words ≡ allowed = sym (start-ruled g words) ∙ p .0 in
+    let p = call-answers w unreported (rules g words) (starts w g) tt e in
+    let v : verdict g words ≡ allowed = sym (start-ruled g words) ∙ p .0 in
     rw (p .1)
     (record {
       fit = empty-is-fit g words v;
-      agreed = agreed-start g (w .memory) (accepted-is-legal memoryWords g words .0 v);
+      agreed = agreed-start g (w .memory) (accepted-is-legal g words .0 v);
     })
 
 -- ---- the run

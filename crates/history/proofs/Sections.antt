@@ -12,7 +12,6 @@ use lib.ListN.{getD}
 use Rattle.words.specs.Ranges.{rangeEnd, Outside, SameIn, OnlyIn}
 use Rattle.registers.specs.declared.Registers.{Registers}
 use Rattle.layout.specs.Legal.{Has, Legal}
-use Rattle.layout.specs.Sections.{memoryWords}
 use Rattle.filter.specs.Search.{listOf, listRange}
 use Rattle.places.specs.Areas.{areaRange, areaEnd}
 use Rattle.areas.specs.Own.{own, writtenSections, OnlySections}
@@ -41,7 +40,7 @@ module _ (g : Registers) (began mem : List ℕ) (rest : OnlySections g writtenSe
           })))
 
   -- the filter lists are as at the start
-  pub lists-stay : (words : ℕ) → Legal memoryWords g words → (xtd : Bool) → SameIn (listRange (listOf g xtd)) mem began
+  pub lists-stay : (words : ℕ) → Legal g words → (xtd : Bool) → SameIn (listRange (listOf g xtd)) mem began
   lists-stay words legal xtd = record { size = sym (rest .size); within = go xtd }
     where
       word : (j k : ℕ) → j < 2 → Has g j k → getD began k 0 ≡ getD mem k 0

@@ -16,7 +16,6 @@ use Rattle.element.specs.Headers.{eventHeaderIn}
 use Rattle.element.specs.declared.EventHeader.{EventHeader}
 use Rattle.element.specs.declared.TxHeader.{TxHeader}
 use Rattle.layout.specs.Legal.{Legal}
-use Rattle.layout.specs.Sections.{memoryWords}
 use Rattle.places.specs.Areas.{areaRange}
 use Rattle.places.specs.declared.Slot.{Slot}
 use Rattle.areas.specs.Areas.{eventArea}
@@ -72,7 +71,7 @@ module _ (began : List ℕ) (b : Book) (w : World) (fit : isUnfit w ≡ false)
   abbrev Kept : (c : Call) → Outcome (Answer c) → Type 0
   Kept c o = BookAgrees g began (note g b c (o .says)) (o .world .state) (o .world .memory)
 
-  legal : Legal memoryWords g (length mem)
+  legal : Legal g (length mem)
   legal = sound-of (w .state) (w .recorded) (length mem) fit .legal
 
   pub in-step : InStep l w

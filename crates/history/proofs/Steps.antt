@@ -7,7 +7,6 @@ use mathlib.Core.List.{List, [], _∷_}
 use lib.ListN.{length}
 use Rattle.words.specs.Rules.{first}
 use Rattle.registers.specs.declared.Registers.{Registers}
-use Rattle.layout.specs.Sections.{memoryWords}
 use Rattle.layout.specs.Verdict.{rules}
 use Rattle.shape.specs.Calls.{leaves, effected}
 use Rattle.shape.specs.Histories.{told}
@@ -52,8 +51,8 @@ module _ (began : List ℕ) (b : Book) (w : World) (fit : isUnfit w ≡ false)
   told-here : (c : Call) → told (step w c) ≡ expect (w .state .regs) began b c
   unfolding overviewRefusals
   told-here (start g) =
-      told-same w unreported (starts w g) tt _ (rules memoryWords g (length (w .memory)))
-      (rules memoryWords g (length began)) (ap (λ (n : ℕ). first (rules memoryWords g n)) (h .rest .size)) (λ e. refl)
+      told-same w unreported (starts w g) tt _ (rules g (length (w .memory)))
+      (rules g (length began)) (ap (λ (n : ℕ). first (rules g n)) (h .rest .size)) (λ e. refl)
   told-here (receive f d time) = receive-told began b w fit h f d time
   told-here (readFifo fifo place out) = read-fifo-told began b w fit h fifo place out
   told-here (acknowledgeFifo fifo place) = acknowledge-told began b w fit h fifo place
@@ -78,7 +77,7 @@ module _ (began : List ℕ) (b : Book) (w : World) (fit : isUnfit w ≡ false)
   start-kept : (g : Registers) → isStarted (start g, told (Starting.start w g)) ≡ false
       → Kept (start g) (Starting.start w g)
   start-kept g =
-      call-cases w unreported (rules memoryWords g (length (w .memory))) (starts w g)
+      call-cases w unreported (rules g (length (w .memory))) (starts w g)
       (λ (o : Outcome (Unit {0})). isStarted (start g, told o) ≡ false → Kept (start g) o) (λ n turned. h)
       (λ e turned. absurd (true≢false turned))
 

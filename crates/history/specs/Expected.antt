@@ -16,7 +16,7 @@ use Rattle.element.specs.Bytes.{rxRead, readBytes}
 use Rattle.element.specs.Headers.{eventHeaderIn, headed}
 use Rattle.element.specs.declared.EventHeader.{EventHeader}
 use Rattle.element.specs.declared.RxRead.{RxRead}
-use Rattle.layout.specs.Sections.{memoryWords, sectionsOf}
+use Rattle.layout.specs.Sections.{sectionsOf}
 use Rattle.layout.specs.Verdict.{rules}
 use Rattle.filter.specs.Destination.{Goes, toFifo, toBuffer, discarded, destination}
 use Rattle.places.specs.declared.Area.{Area}
@@ -105,7 +105,7 @@ statusIn g b = record {
 -- with a memory of so many words, and where a frame goes by the filters while so many new-data bits are set
 abbrev pub expectBy : Registers → ℕ → (Frame → ℕ → Goes) → Book → (c : Call) → Told (Answer c)
 expectBy g words goes b (start regs) =
-    expected unreported (rules memoryWords regs words) tt (flat (sectionsOf regs))
+    expected unreported (rules regs words) tt (flat (sectionsOf regs))
 expectBy g words goes b (receive f d time) = expectReceive g b f d (goes f (b .newdata))
 expectBy g words goes b (readFifo fifo place out) =
     expectRead out (fifoAgainst g b fifo place) (fifoArea g fifo) (entryAt place (fifoLedger b fifo .held) .words)

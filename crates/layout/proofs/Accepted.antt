@@ -18,16 +18,17 @@ use Rattle.words.proofs.Rulings.{all-allowed, allowed-all, held-off, let-pass}
 use Rattle.words.proofs.Unnamed.{unnamed, agrees, below32}
 use Rattle.registers.specs.Kinds.{sidfc, xidfc, rxfc, rxbc, rxesc, txefc, txbc, txesc, gfc, xidam}
 use Rattle.shape.specs.Refusals.{names}
-use Rattle.registers.specs.Fields.{dedicated, shared}
+use Rattle.registers.specs.Fields.{memoryWords, dedicated, shared}
 use Rattle.registers.specs.Given.{allNamed}
 use Rattle.registers.specs.declared.Registers.{Registers}
 use Rattle.layout.specs.Sections.{none, sectionsOf}
 use Rattle.layout.specs.Verdict.{plain, over, firstWith, end, past, endRule, shares, partner}
 use Rattle.layout.specs.Verdict.{hasPartner, pairRule, rules, verdict}
-use Rattle.layout.specs.Legal.{Named, WithinMost, Has, Legal}
+use Rattle.layout.specs.Legal.{RightMemory, Named, WithinMost, Has, Legal}
 use Rattle.layout.specs.Promises.{AcceptedIsLegal, AllInside, AllApart}
 use Rattle.layout.specs.declared.sections.Section.{Section}
 use Rattle.layout.proofs.Counts.{none-over, all-within, counted-of, within-of}
+use Rattle.layout.proofs.Memory.{right-of, of-right}
 use Rattle.layout.proofs.Table.{Within, has-within, within-has, empty-or-some}
 
 -- a search of the seven sections that refuses nothing has found no fault
@@ -179,28 +180,28 @@ module _ (r : Registers) (words : ℕ) where
             (λ j h l. words-apart _ _ (λ k v w. f i j k h l (within-has r i k v) (within-has r j k w)))),
       )))
 
-module _ (given : ℕ) (r : Registers) (words : ℕ) where
-  pub verdict-rules : verdict given r words ≡ first (rules given r words)
+module _ (r : Registers) (words : ℕ) where
+  pub verdict-rules : verdict r words ≡ first (rules r words)
   unfolding verdict
   verdict-rules = refl
 
   -- the first k rules let pass where what they judge is right
-  pub fine : (k : ℕ) → (0 < k → words ≡ given) → (1 < k → Named r) → (2 < k → WithinMost r)
-      → (3 < k → dedicated r + shared r ≤ 32) → (4 < k → AllInside r words) → (5 < k → AllApart r)
-      → (j : ℕ) → j < k → getD (rules given r words) j allowed ≡ allowed
-  fine k m n c t s a zero h = let-pass (plain 10) (ap not (eq-eqb words given (m h)))
+  pub fine : (k : ℕ) → (0 < k → RightMemory r words) → (1 < k → Named r) → (2 < k → WithinMost r)
+      → (3 < k → dedicated r + shared r ≤ 32) → (4 < k → AllInside r) → (5 < k → AllApart r)
+      → (j : ℕ) → j < k → getD (rules r words) j allowed ≡ allowed
+  fine k m n c t s a zero h = let-pass (plain 10) (of-right r words (m h))
   fine k m n c t s a (suc zero) h = let-pass (plain 11) (ap not (name r (n h)))
   fine k m n c t s a (suc (suc zero)) h = with-none 12 (over r) (all-within r (c h))
   fine k m n c t s a (suc (suc (suc zero))) h = let-pass (plain 13) (le-ltb 32 _ (t h))
   fine k m n c t s a (suc (suc (suc (suc zero)))) h =
-      with-none 14 (past words (sectionsOf r)) (put-inside r words (s h))
+      with-none 14 (past (memoryWords r) (sectionsOf r)) (put-inside r (memoryWords r) (s h))
   fine k m n c t s a (suc (suc (suc (suc (suc zero))))) h = put-apart r words (a h)
   fine k m n c t s a (suc (suc (suc (suc (suc (suc j)))))) h = refl
 
   -- and only there
-  module _ (k : ℕ) (b : (j : ℕ) → j < k → getD (rules given r words) j allowed ≡ allowed) where
-    pub right-memory : 0 < k → words ≡ given
-    right-memory h = eqb-true words given (not-false (eqb words given) (held-off _ (plain 10) (b 0 h)))
+  module _ (k : ℕ) (b : (j : ℕ) → j < k → getD (rules r words) j allowed ≡ allowed) where
+    pub right-memory : 0 < k → RightMemory r words
+    right-memory h = right-of r words (held-off _ (plain 10) (b 0 h))
 
     pub right-bits : 1 < k → Named r
     right-bits h = named r (not-false (allNamed r) (held-off _ (plain 11) (b 1 h)))
@@ -211,45 +212,46 @@ module _ (given : ℕ) (r : Registers) (words : ℕ) where
     pub right-together : 3 < k → dedicated r + shared r ≤ 32
     right-together h = ltb-false _ _ (held-off _ (plain 13) (b 3 h))
 
-    pub right-ends : 4 < k → AllInside r words
-    right-ends h = inside r words (b 4 h)
+    pub right-ends : 4 < k → AllInside r
+    right-ends h = inside r (memoryWords r) (b 4 h)
 
     pub right-apart : 5 < k → AllApart r
     right-apart h = apart r words (b 5 h)
 
-  to-legal : verdict given r words ≡ allowed → Legal given r words
+  to-legal : verdict r words ≡ allowed → Legal r words
   to-legal e = record {
     memory = right-memory 6 b (omega arith);
     named = right-bits 6 b (omega arith);
     counted = counted-of r (right-counts 6 b (omega arith)) (right-together 6 b (omega arith));
-    inside = right-ends 6 b (omega arith);
+    inside =
+        λ i k h w. omega (arith, right-memory 6 b (omega arith) .lent, right-ends 6 b (omega arith) i k h w);
     apart = right-apart 6 b (omega arith);
   }
     where
-      b : (j : ℕ) → j < 6 → getD (rules given r words) j allowed ≡ allowed
-      b j h = all-allowed (rules given r words) (sym verdict-rules ∙ e) j
+      b : (j : ℕ) → j < 6 → getD (rules r words) j allowed ≡ allowed
+      b j h = all-allowed (rules r words) (sym verdict-rules ∙ e) j
 
-  from-legal : Legal given r words → verdict given r words ≡ allowed
+  from-legal : Legal r words → verdict r words ≡ allowed
   from-legal h =
       verdict-rules
-      ∙ allowed-all (rules given r words)
+      ∙ allowed-all (rules r words)
       (fine 6 (λ l. h .memory) (λ l. h .named) (λ l. within-of r (h .counted)) (λ l. h .counted .together)
-      (λ l. h .inside) (λ l. h .apart))
+      (λ l i k a w. omega (arith, h .memory .lent, h .inside i k a w)) (λ l. h .apart))
 
 pub accepted-is-legal : AcceptedIsLegal
-accepted-is-legal given r words = (to-legal given r words, from-legal given r words)
+accepted-is-legal r words = (to-legal r words, from-legal r words)
 
 -- a legal section ends within the memory
-pub ends-inside : (given : ℕ) (r : Registers) (words : ℕ) → Legal given r words → (i : ℕ) → i < 7
+pub ends-inside : (r : Registers) (words : ℕ) → Legal r words → (i : ℕ) → i < 7
     → end (getD (sectionsOf r) i none) ≤ words
-ends-inside given r words h i l =
+ends-inside r words h i l =
     ltb-false words (end (getD (sectionsOf r) i none)) (put-inside r words (h .inside) i l)
 
 -- of two legal sections one ends before the other starts
-pub sections-apart : (given : ℕ) (r : Registers) (words : ℕ) → Legal given r words → (i j : ℕ) → i < j → j < 7
+pub sections-apart : (r : Registers) (words : ℕ) → Legal r words → (i j : ℕ) → i < j → j < 7
     → (end (getD (sectionsOf r) i none) ≤ getD (sectionsOf r) j none .start .0)
     ⊎ (end (getD (sectionsOf r) j none) ≤ getD (sectionsOf r) i none .start .0)
-sections-apart given r words h i j l m =
+sections-apart r words h i j l m =
     side (getD (sectionsOf r) i none) (getD (sectionsOf r) j none) (empty-or-some r i (omega arith))
     (empty-or-some r j m)
     (words-apart _ _ (λ k v w. h .apart i j k l m (within-has r i k v) (within-has r j k w)))

@@ -18,21 +18,21 @@ use Rattle.layout.proofs.Accepted.{accepted-is-legal}
 pub numbers-of : (v w : Verdict) (a : Refusal) → v ≡ w → a ≡ numbers (meaning w) → a ≡ numbers (meaning v)
 numbers-of v w a e f = f ∙ ap (λ (u : Verdict). numbers (meaning u)) (sym e)
 
-module _ (given : ℕ) (r : Registers) (len : ℕ) (v : Verdict) (e : meaning v ≡ verdict given r len) (b : Bool)
+module _ (r : Registers) (len : ℕ) (v : Verdict) (e : meaning v ≡ verdict r len) (b : Bool)
     (t : b ≡ isAllowed (meaning v)) where
-  tested : isAllowed (verdict given r len) ≡ b
+  tested : isAllowed (verdict r len) ≡ b
   tested = sym (t ∙ ap isAllowed e)
 
   pub accepted-buffers : b ≡ true → r .buffers ≤ 64
   accepted-buffers y =
-      accepted-is-legal given r len .0 (is-allowed (verdict given r len) (tested ∙ y)) .counted .buffers
+      accepted-is-legal r len .0 (is-allowed (verdict r len) (tested ∙ y)) .counted .buffers
 
-  pub reports-sections : b ≡ true → (ss : List Section) → ss ≡ sectionsOf r → ss ≡ reported (verdict given r len) r
+  pub reports-sections : b ≡ true → (ss : List Section) → ss ≡ sectionsOf r → ss ≡ reported (verdict r len) r
   reports-sections y ss q =
-      q ∙ sym (settle-allowed (verdict given r len) (sectionsOf r) (λ a. replicate 7 none) (tested ∙ y))
+      q ∙ sym (settle-allowed (verdict r len) (sectionsOf r) (λ a. replicate 7 none) (tested ∙ y))
 
   pub reports-none : b ≡ false → (s : Section) → s ≡ none
-      → s ∷ s ∷ s ∷ s ∷ s ∷ s ∷ s ∷ [] ≡ reported (verdict given r len) r
+      → s ∷ s ∷ s ∷ s ∷ s ∷ s ∷ s ∷ [] ≡ reported (verdict r len) r
   reports-none n s q =
       ap (λ (x : Section). x ∷ x ∷ x ∷ x ∷ x ∷ x ∷ x ∷ []) q
-      ∙ sym (settle-refused (verdict given r len) (sectionsOf r) (replicate 7 none) (tested ∙ n))
+      ∙ sym (settle-refused (verdict r len) (sectionsOf r) (replicate 7 none) (tested ∙ n))

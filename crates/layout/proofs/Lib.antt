@@ -2,6 +2,7 @@ pub mod Searches
 pub mod Says
 pub mod Table
 pub mod Counts
+pub mod Memory
 pub mod Accepted
 pub mod Names
 pub mod Exact

@@ -6,18 +6,19 @@ use mathlib.Core.Bool.{Bool, true, false, not}
 use mathlib.Core.Logic.{⊎-elim}
 use borrow.Author.Tests.{ltb-true, ltb-false}
 use native.Mathlib.Omega.{arith}
-use lib.Dec.{eqb, ltb}
+use lib.Dec.{ltb}
 use lib.ListN.{getD}
 use Rattle.words.specs.Least.{leastFrom}
 use Rattle.words.specs.Rules.{allowed, refused, refuseIf}
 use Rattle.words.proofs.Lowest.{least-from, least-passes, least-below}
 use Rattle.words.proofs.Rulings.{first-refused, refused-by}
 use Rattle.shape.specs.Refusals.{Refusal, names}
-use Rattle.registers.specs.Fields.{txCount}
+use Rattle.registers.specs.Fields.{memoryWords, txCount}
 use Rattle.registers.specs.Given.{allNamed}
 use Rattle.registers.specs.declared.Registers.{Registers}
 use Rattle.layout.specs.Sections.{none, sectionsOf}
-use Rattle.layout.specs.Verdict.{plain, over, firstWith, end, past, shares, partner, hasPartner, rules, verdict}
+use Rattle.layout.specs.Verdict.{plain, wrongMemory, over, firstWith, end, past, shares, partner, hasPartner}
+use Rattle.layout.specs.Verdict.{rules, verdict}
 use Rattle.layout.specs.Promises.{FirstPast, FirstPair}
 use Rattle.layout.proofs.Table.{Within, has-within, within-has, empty-or-some}
 use Rattle.layout.proofs.Accepted.{apart-words, shared-word, no-partner, verdict-rules}
@@ -26,35 +27,35 @@ number-of : (t : Bool) (b a : Refusal) → refuseIf t b ≡ refused a → b .num
 number-of t b a e = ap (λ (x : Refusal). x .number) (refused-by t b a e .1)
 
 -- rule k refuses with number 10 + k
-numbered : (given : ℕ) (r : Registers) (words k : ℕ) (a : Refusal)
-    → getD (rules given r words) k allowed ≡ refused a → 10 + k ≡ a .number
-numbered given r words zero a e = number-of (not (eqb words given)) (plain 10) a e
-numbered given r words (suc zero) a e = number-of (not (allNamed r)) (plain 11) a e
-numbered given r words (suc (suc zero)) a e =
+numbered : (r : Registers) (words k : ℕ) (a : Refusal)
+    → getD (rules r words) k allowed ≡ refused a → 10 + k ≡ a .number
+numbered r words zero a e = number-of (wrongMemory (memoryWords r) words) (plain 10) a e
+numbered r words (suc zero) a e = number-of (not (allNamed r)) (plain 11) a e
+numbered r words (suc (suc zero)) a e =
     number-of (ltb (leastFrom (over r) 0 7) 7) (names 12 (leastFrom (over r) 0 7) 7) a e
-numbered given r words (suc (suc (suc zero))) a e = number-of (ltb 32 (txCount r)) (plain 13) a e
-numbered given r words (suc (suc (suc (suc zero)))) a e =
-    number-of (ltb (leastFrom (past words (sectionsOf r)) 0 7) 7)
-    (names 14 (leastFrom (past words (sectionsOf r)) 0 7) 7) a e
-numbered given r words (suc (suc (suc (suc (suc zero))))) a e =
+numbered r words (suc (suc (suc zero))) a e = number-of (ltb 32 (txCount r)) (plain 13) a e
+numbered r words (suc (suc (suc (suc zero)))) a e =
+    number-of (ltb (leastFrom (past (memoryWords r) (sectionsOf r)) 0 7) 7)
+    (names 14 (leastFrom (past (memoryWords r) (sectionsOf r)) 0 7) 7) a e
+numbered r words (suc (suc (suc (suc (suc zero))))) a e =
     let i = leastFrom (hasPartner (sectionsOf r)) 0 7 in
     number-of (ltb i 7) (names 15 i (partner (sectionsOf r) i)) a e
-numbered given r words (suc (suc (suc (suc (suc (suc k)))))) a e = let z : _≡_ {A = ℕ} 0 1 = cc in absurd (omega arith)
+numbered r words (suc (suc (suc (suc (suc (suc k)))))) a e = let z : _≡_ {A = ℕ} 0 1 = cc in absurd (omega arith)
 
 -- so a refusal comes from the rule of its number
-pub rule-of : (given : ℕ) (r : Registers) (words k : ℕ) (a : Refusal) → a .number ≡ 10 + k
-    → verdict given r words ≡ refused a → getD (rules given r words) k allowed ≡ refused a
-rule-of given r words k a n e =
-    let d = first-refused (rules given r words) a (sym (verdict-rules given r words) ∙ e) in
-    let same : d .0 ≡ k = omega (arith, numbered given r words (d .0) a (d .1 .1)) in
-    ap (λ (i : ℕ). getD (rules given r words) i allowed) (sym same) ∙ d .1 .1
+pub rule-of : (r : Registers) (words k : ℕ) (a : Refusal) → a .number ≡ 10 + k
+    → verdict r words ≡ refused a → getD (rules r words) k allowed ≡ refused a
+rule-of r words k a n e =
+    let d = first-refused (rules r words) a (sym (verdict-rules r words) ∙ e) in
+    let same : d .0 ≡ k = omega (arith, numbered r words (d .0) a (d .1 .1)) in
+    ap (λ (i : ℕ). getD (rules r words) i allowed) (sym same) ∙ d .1 .1
 
 -- and each rule before it lets pass
-pub passed-before : (given : ℕ) (r : Registers) (words k : ℕ) (a : Refusal) → a .number ≡ 10 + k
-    → verdict given r words ≡ refused a → (j : ℕ) → j < k → getD (rules given r words) j allowed ≡ allowed
-passed-before given r words k a n e j h =
-    let d = first-refused (rules given r words) a (sym (verdict-rules given r words) ∙ e) in
-    d .1 .2 j (omega (arith, numbered given r words (d .0) a (d .1 .1)))
+pub passed-before : (r : Registers) (words k : ℕ) (a : Refusal) → a .number ≡ 10 + k
+    → verdict r words ≡ refused a → (j : ℕ) → j < k → getD (rules r words) j allowed ≡ allowed
+passed-before r words k a n e j h =
+    let d = first-refused (rules r words) a (sym (verdict-rules r words) ∙ e) in
+    d .1 .2 j (omega (arith, numbered r words (d .0) a (d .1 .1)))
 
 abbrev section : Refusal → ℕ
 section a = a .section
@@ -76,21 +77,25 @@ first-fault n fault i e =
       before = λ j h. least-below fault 0 7 j (omega arith) (omega arith);
     }
 
-pub end-names-first : (given : ℕ) (r : Registers) (words i : ℕ) → verdict given r words ≡ refused (names 14 i 7)
-    → FirstPast r words i
-end-names-first given r words i e =
+pub end-names-first : (r : Registers) (words i : ℕ) → verdict r words ≡ refused (names 14 i 7)
+    → FirstPast r i
+end-names-first r words i e =
     let ss = sectionsOf r in
-    let f = first-fault 14 (past words ss) i (rule-of given r words 4 (names 14 i 7) refl e) in
+    let f = first-fault 14 (past (memoryWords r) ss) i (rule-of r words 4 (names 14 i 7) refl e) in
     let s = getD ss i none in
-    let l = ltb-true words (end s) (f .here) in
+    let l = ltb-true (memoryWords r) (end s) (f .here) in
     record {
       section = f .inside;
       here = (end s - 1, omega arith, within-has r i (end s - 1) (last i (f .inside) l));
       before =
-          λ j k h w. omega (arith, has-within r j k w .below, ltb-false words (end (getD ss j none)) (f .before j h));
+          λ j k h w. omega (
+            arith,
+            has-within r j k w .below,
+            ltb-false (memoryWords r) (end (getD ss j none)) (f .before j h),
+          );
     }
   where
-    last : (i : ℕ) → i < 7 → words < end (getD (sectionsOf r) i none)
+    last : (i : ℕ) → i < 7 → memoryWords r < end (getD (sectionsOf r) i none)
         → Within (getD (sectionsOf r) i none) (end (getD (sectionsOf r) i none) - 1)
     last i h l =
         ⊎-elim (λ e. absurd (omega (arith, ap end e))) (λ m. record { from = omega arith; below = omega arith })
@@ -99,12 +104,12 @@ end-names-first given r words i e =
 abbrev other : Refusal → ℕ
 other a = a .other
 
-pub overlap-names-first : (given : ℕ) (r : Registers) (words i j : ℕ)
-    → verdict given r words ≡ refused (names 15 i j) → FirstPair r i j
+pub overlap-names-first : (r : Registers) (words i j : ℕ)
+    → verdict r words ≡ refused (names 15 i j) → FirstPair r i j
 unfolding partner
-overlap-names-first given r words i j e =
+overlap-names-first r words i j e =
     let ss = sectionsOf r in
-    let b = refused-by _ _ (names 15 i j) (rule-of given r words 5 (names 15 i j) refl e) in
+    let b = refused-by _ _ (names 15 i j) (rule-of r words 5 (names 15 i j) refl e) in
     let l = ltb-true (leastFrom (hasPartner ss) 0 7) 7 (b .0) in
     let m : leastFrom (hasPartner ss) 0 7 ≡ i = ap section (b .1) in
     let p : partner ss i ≡ j = ap (partner ss) (sym m) ∙ ap other (b .1) in

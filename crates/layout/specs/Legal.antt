@@ -8,6 +8,12 @@ use Rattle.registers.specs.Kinds
 use Rattle.registers.specs.Fields
 use Rattle.registers.specs.declared.Registers.{Registers}
 
+-- the memory has the length that was given: at least one word, at most 4,352
+pub record RightMemory (r : Registers) (words : ℕ) : Type 0 where
+  pub some : 0 < Fields.memoryWords r
+  pub most : Fields.memoryWords r ≤ 4352
+  pub lent : words ≡ Fields.memoryWords r
+
 -- every bit that the paper does not name is 0
 pub record Named (r : Registers) : Type 0 where
   pub sidfc : RestZero Kinds.sidfc (r .sidfc .word)
@@ -102,8 +108,8 @@ pub record Has (r : Registers) (i k : ℕ) : Type 0 where
   pub from : rowOf r i .start ≤ k
   pub below : k < rowOf r i .start + rowOf r i .count * rowOf r i .each
 
-pub record Legal (given : ℕ) (r : Registers) (words : ℕ) : Type 0 where
-  pub memory : words ≡ given
+pub record Legal (r : Registers) (words : ℕ) : Type 0 where
+  pub memory : RightMemory r words
   pub named : Named r
   pub counted : Counted r
   pub inside : (i k : ℕ) → i < 7 → Has r i k → k < words

@@ -11,9 +11,9 @@ use Rattle.registers.specs.Fields.{eventStart, eventSize, txStart, dedicated, s
 use Rattle.registers.specs.declared.Registers.{Registers}
 use Rattle.layout.specs.declared.sections.Section.{Section}
 
--- the memory's length in words
-abbrev pub memoryWords : ℕ
-memoryWords = 2560
+-- the most words that a memory may have
+abbrev pub mostWords : ℕ
+mostWords = 4352
 
 -- no words; its start is reported as 0
 abbrev pub none : Section

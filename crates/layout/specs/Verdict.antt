@@ -1,16 +1,16 @@
 -- Which layouts a start refuses: numbers 10 to 15, with the two sections that each names (7 for none).
 use Prim.Native.Nat.{ℕ, _+_, _-_, min, max}
-use mathlib.Core.Bool.{Bool, false, not}
+use mathlib.Core.Bool.{Bool, false, not, _||_}
 use mathlib.Core.List.{List, [], _∷_}
 use lib.Dec.{eqb, ltb}
 use lib.ListN.{getD, replicate}
 use Rattle.words.specs.Least.{leastFrom}
 use Rattle.words.specs.Rules.{Ruling, allowed, refused, refuseIf, first, settle}
 use Rattle.shape.specs.Refusals.{Refusal, names, Refusals}
-use Rattle.registers.specs.Fields.{txCount}
+use Rattle.registers.specs.Fields.{memoryWords, txCount}
 use Rattle.registers.specs.Given.{allNamed}
 use Rattle.registers.specs.declared.Registers.{Registers}
-use Rattle.layout.specs.Sections.{none, overMost, sectionsOf}
+use Rattle.layout.specs.Sections.{mostWords, none, overMost, sectionsOf}
 use Rattle.layout.specs.declared.sections.Section.{Section}
 use Rattle.layout.specs.declared.check.Naming.{Naming}
 use Rattle.layout.specs.declared.check.Verdict.{Verdict}
@@ -42,9 +42,12 @@ asRefusal n = names (n .number) (n .section) (n .other)
 abbrev pub firstWith : ℕ → (ℕ → Bool) → Ruling Refusal
 firstWith n fault = refuseIf (ltb (leastFrom fault 0 7) 7) (names n (leastFrom fault 0 7) 7)
 
--- 10: the memory isn't of the given length
-abbrev pub memoryRule : ℕ → ℕ → Ruling Refusal
-memoryRule given words = refuseIf (not (eqb words given)) (plain 10)
+-- 10: the given length is 0, or over the most, or not the memory's
+abbrev pub wrongMemory : ℕ → ℕ → Bool
+wrongMemory given words = eqb given 0 || ltb mostWords given || not (eqb words given)
+
+abbrev pub memoryRule : Registers → ℕ → Ruling Refusal
+memoryRule r words = refuseIf (wrongMemory (memoryWords r) words) (plain 10)
 
 -- 11: some register has a bit set outside its named fields
 abbrev pub bitsRule : Registers → Ruling Refusal
@@ -61,7 +64,7 @@ countRule r = firstWith 12 (over r)
 abbrev pub txRule : Registers → Ruling Refusal
 txRule r = refuseIf (ltb 32 (txCount r)) (plain 13)
 
--- 14: the first section whose end is beyond the memory
+-- 14: the first section whose end is beyond the given length
 abbrev pub end : Section → ℕ
 end s = s .start .0 + s .words
 
@@ -88,20 +91,20 @@ pairRule ss =
     let i = leastFrom (hasPartner ss) 0 7 in
     refuseIf (ltb i 7) (names 15 i (partner ss i))
 
--- the rules in the order of their numbers, for a memory of so many words where one of the given length is wanted
-abbrev pub rules : ℕ → Registers → ℕ → Refusals
-rules given r words =
-    memoryRule given words
+-- the rules in the order of their numbers, for a memory of so many words
+abbrev pub rules : Registers → ℕ → Refusals
+rules r words =
+    memoryRule r words
     ∷ bitsRule r
     ∷ countRule r
     ∷ txRule r
-    ∷ endRule words (sectionsOf r)
+    ∷ endRule (memoryWords r) (sectionsOf r)
     ∷ pairRule (sectionsOf r)
     ∷ []
 
 -- the lowest number that applies
-unfoldable pub verdict : ℕ → Registers → ℕ → Ruling Refusal
-verdict given r words = first (rules given r words)
+unfoldable pub verdict : Registers → ℕ → Ruling Refusal
+verdict r words = first (rules r words)
 
 -- the sections that a start reports: those of the registers where it accepts, and seven without words where it refuses
 abbrev pub reported : Ruling Refusal → Registers → List Section

@@ -11,12 +11,11 @@ ghost use lib.ListN.{getD};
 ghost use Rattle.words.specs.Least.{leastFrom};
 ghost use Rattle.words.specs.Rules.{isAllowed};
 ghost use Rattle.shape.specs.Refusals.{names};
-ghost use Rattle.layout.specs.Sections.{memoryWords};
 ghost use Rattle.layout.specs.Verdict.{meaning, numbers, asRefusal};
-ghost use Rattle.layout.specs.Verdict.{end, past, shares, pairRule, verdict, reported};
+ghost use Rattle.layout.specs.Verdict.{wrongMemory, end, past, shares, pairRule, verdict, reported};
 
-// The memory's length in words.
-pub const MEMORY_WORDS: usize = 2560;
+// The most words that a memory may have.
+pub const MOST_WORDS: u32 = 4352;
 
 // Sections are named by their numbers, 0 to 6.
 pub enum Verdict {
@@ -145,10 +144,17 @@ fn check_pairs(s: [Section; 7]) -> Verdict
     found
 }
 
-pub fn check(regs: Registers, len: usize) -> Verdict
-    ensures { λ r. ⌜ meaning r ≡ verdict memoryWords regs len ⌝ }
+// Whether a memory of so many words is not one of the given length, or that length is none that a memory may have.
+fn wrong_memory(given: u32, len: usize) -> bool
+    ensures { λ b. ⌜ b ≡ wrongMemory given len ⌝ }
 {
-    if len != MEMORY_WORDS {
+    (given == 0) | (MOST_WORDS < given) | (len != given as usize)
+}
+
+pub fn check(regs: Registers, len: usize) -> Verdict
+    ensures { λ r. ⌜ meaning r ≡ verdict regs len ⌝ }
+{
+    if wrong_memory(regs.memory, len) {
         return Verdict::WrongMemory;
     }
     if !regs.only_named() {
@@ -162,7 +168,7 @@ pub fn check(regs: Registers, len: usize) -> Verdict
         return Verdict::TxOver;
     }
     let s = sections(regs);
-    let past = first_past(s, len as u64);
+    let past = first_past(s, regs.memory as u64);
     if past < 7 {
         return Verdict::PastMemory(past);
     }
@@ -171,8 +177,8 @@ pub fn check(regs: Registers, len: usize) -> Verdict
 
 // The verdict, with the sections where it accepts.
 pub fn judge(regs: Registers, len: usize) -> Report
-    ensures { λ r. ⌜ meaning (r .verdict) ≡ verdict memoryWords regs len ⌝ }
-    ensures { λ r. ⌜ r .sections ≡ reported (verdict memoryWords regs len) regs ⌝ }
+    ensures { λ r. ⌜ meaning (r .verdict) ≡ verdict regs len ⌝ }
+    ensures { λ r. ⌜ r .sections ≡ reported (verdict regs len) regs ⌝ }
 {
     let verdict = check(regs, len);
     if verdict.accepted() {

@@ -7,11 +7,11 @@ use lib.ListN.{take}
 use Rattle.words.specs.Choice.{pick}
 use Rattle.words.specs.Rules.{Ruling, allowed, refused}
 use Rattle.shape.specs.Refusals.{Refusal}
-use Rattle.layout.specs.Sections.{memoryWords, sectionsOf}
+use Rattle.layout.specs.Sections.{sectionsOf}
 use Rattle.layout.specs.Verdict.{verdict}
 use Rattle.layout.specs.declared.sections.Section.{Section}
 use Rattle.printout.specs.Ascii.{ascii}
-use Rattle.printout.specs.Input.{readable, registersOf}
+use Rattle.printout.specs.Input.{readable, benchWords, registersOf}
 use Rattle.printout.specs.Printed.{unread, told, printed}
 use Rattle.printout.specs.Promises.{AlwaysAnswers}
 
@@ -22,4 +22,4 @@ answers false v ss = refl
 
 pub always-answers : AlwaysAnswers
 unfolding printed
-always-answers s = answers (readable s) (verdict memoryWords (registersOf s) memoryWords) (sectionsOf (registersOf s))
+always-answers s = answers (readable s) (verdict (registersOf s) benchWords) (sectionsOf (registersOf s))

@@ -12,12 +12,12 @@ use Rattle.words.proofs.Choices.{pick-first, pick-second}
 use Rattle.words.proofs.Rulings.{settle-allowed}
 use Rattle.shape.specs.Refusals.{Refusal, names}
 use Rattle.registers.specs.declared.Registers.{Registers}
-use Rattle.layout.specs.Sections.{memoryWords, none, sectionsOf}
+use Rattle.layout.specs.Sections.{none, sectionsOf}
 use Rattle.layout.specs.Verdict.{meaning, numbers, verdict, reported}
 use Rattle.layout.specs.declared.sections.Section.{Section}
 use Rattle.layout.specs.declared.check.Verdict.{Verdict}
 use Rattle.printout.specs.Ascii.{ascii}
-use Rattle.printout.specs.Input.{readable, registersOf}
+use Rattle.printout.specs.Input.{readable, benchWords, registersOf}
 use Rattle.printout.specs.Printed.{row, rows, unread, refusal, ok, told, report, printed}
 
 -- a text that was empty
@@ -78,14 +78,14 @@ module _ (s : List ℕ) (t : Bool) (tested : t ≡ readable s) where
   is-read y = sym tested ∙ y
 
   pub read-told : t ≡ true → (r : Registers) → r ≡ registersOf s
-      → (v : Verdict) → meaning v ≡ verdict memoryWords r memoryWords
-      → (ss : List Section) → ss ≡ reported (verdict memoryWords r memoryWords) r
+      → (v : Verdict) → meaning v ≡ verdict r benchWords
+      → (ss : List Section) → ss ≡ reported (verdict r benchWords) r
       → (x : List ℕ) → x ≡ told (meaning v) ss → x ≡ printed s
   unfolding printed
   read-told y r e v f ss g x h =
       h
       ∙ ap (λ (m : Ruling Refusal). told m ss) f
-      ∙ ap (told (verdict memoryWords r memoryWords)) g
-      ∙ same-told (verdict memoryWords r memoryWords) r
+      ∙ ap (told (verdict r benchWords)) g
+      ∙ same-told (verdict r benchWords) r
       ∙ ap report e
       ∙ sym (pick-first (report (registersOf s)) unread (is-read y))

@@ -18,13 +18,13 @@ use Rattle.words.proofs.Runs.{getD-run}
 use Rattle.words.proofs.Tables.{every, every-at}
 use Rattle.words.specs.Rules.{Ruling, allowed, refused}
 use Rattle.shape.specs.Refusals.{Refusal}
-use Rattle.layout.specs.Sections.{memoryWords, sectionsOf}
+use Rattle.layout.specs.Sections.{sectionsOf}
 use Rattle.layout.specs.Verdict.{verdict}
 use Rattle.layout.specs.declared.sections.Section.{Section}
 use Rattle.registers.specs.declared.Registers.{Registers}
 use Rattle.printout.specs.Ascii.{ascii}
 use Rattle.printout.specs.Input.{within, digitOf, inPlace, outOfPlace, firstOut, readable, numberFrom, number}
-use Rattle.printout.specs.Input.{registersOf}
+use Rattle.printout.specs.Input.{benchWords, registersOf}
 use Rattle.printout.specs.Lines.{Writes, Line, TwelveLines, twelveRegisters}
 use Rattle.printout.specs.Printed.{unread, told, report, printed}
 use Rattle.printout.specs.Promises.{ReadsTheWords, UnreadIsExact}
@@ -220,6 +220,7 @@ module _ (ws s : List ℕ) (t : TwelveLines ws s) where
     buffers = on-line 11 (omega arith) j;
     fdon = false;
     rateon = false;
+    memory = 2560;
   }
 
 pub reads-the-words : ReadsTheWords
@@ -235,7 +236,7 @@ no-report (refused a) ss e = absurd (omega (arith, ap (λ (l : List ℕ). getD l
 pub unread-is-exact : UnreadIsExact
 unfolding printed
 unread-is-exact s = (
-  λ e ws t. no-report (verdict memoryWords (twelveRegisters ws) memoryWords) (sectionsOf (twelveRegisters ws))
+  λ e ws t. no-report (verdict (twelveRegisters ws) benchWords) (sectionsOf (twelveRegisters ws))
       (sym (reads-the-words ws s t) ∙ e),
   λ n. go n (readable s) refl,
 )

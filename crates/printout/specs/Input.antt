@@ -45,6 +45,10 @@ numberFrom s at (suc k) = numberFrom s at k * 16 + digitOf (getD s (at + k) 0)
 abbrev pub number : List ℕ → ℕ → ℕ
 number s i = numberFrom s (9 * i) 8
 
--- the lines in their order; FD and the rate switch are no part of the input
+-- the memory of document 01's bench cases
+abbrev pub benchWords : ℕ
+benchWords = 2560
+
+-- the lines in their order; FD, the rate switch and the memory's length are no part of the input
 abbrev pub registersOf : List ℕ → Registers
-registersOf s = registersFrom (number s) false false
+registersOf s = registersFrom (number s) false false benchWords

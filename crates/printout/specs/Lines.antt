@@ -24,7 +24,8 @@ pub record TwelveLines (ws : List ℕ) (s : List ℕ) : Type 0 where
   pub size : length s ≡ 108
   pub line : (i : ℕ) → i < 12 → Line (getD ws i 0) s (9 * i)
 
--- the registers of twelve words in the paper's order, the last the number of Rx buffers; FD and the rate switch are off
+-- the registers of twelve words in the paper's order, the last the number of Rx buffers; FD and the rate switch are
+-- off, and the memory has 2,560 words
 abbrev pub twelveRegisters : List ℕ → Registers
 twelveRegisters ws = record {
   sidfc = record { word = getD ws 0 0 };
@@ -41,4 +42,5 @@ twelveRegisters ws = record {
   buffers = getD ws 11 0;
   fdon = false;
   rateon = false;
+  memory = 2560;
 }

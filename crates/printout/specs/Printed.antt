@@ -8,11 +8,11 @@ use Rattle.words.specs.Choice.{pick}
 use Rattle.words.specs.Rules.{Ruling, settle}
 use Rattle.shape.specs.Refusals.{Refusal}
 use Rattle.registers.specs.declared.Registers.{Registers}
-use Rattle.layout.specs.Sections.{memoryWords, none, sectionsOf}
+use Rattle.layout.specs.Sections.{none, sectionsOf}
 use Rattle.layout.specs.Verdict.{verdict}
 use Rattle.layout.specs.declared.sections.Section.{Section}
 use Rattle.printout.specs.Ascii.{ascii}
-use Rattle.printout.specs.Input.{readable, registersOf}
+use Rattle.printout.specs.Input.{readable, benchWords, registersOf}
 
 -- the digit of a number below 10
 abbrev pub digit : ℕ → ℕ
@@ -51,9 +51,9 @@ ok ss = ascii "layout ok\n" ++ rows ss 7
 abbrev pub told : Ruling Refusal → List Section → List ℕ
 told v ss = settle v (ok ss) refusal
 
--- what a start on the whole memory says of the registers
+-- what a start on the bench's memory says of the registers
 abbrev pub report : Registers → List ℕ
-report r = told (verdict memoryWords r memoryWords) (sectionsOf r)
+report r = told (verdict r benchWords) (sectionsOf r)
 
 unfoldable pub printed : List ℕ → List ℕ
 printed s = pick (readable s) (report (registersOf s)) unread

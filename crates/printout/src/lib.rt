@@ -2,9 +2,9 @@
 mod reading;
 mod text;
 
+use crate::reading::BENCH_WORDS;
 use crate::reading::is_readable;
 use crate::reading::registers;
-use layout::check::MEMORY_WORDS;
 use layout::check::Naming;
 use layout::check::Verdict;
 use layout::check::judge;
@@ -58,7 +58,7 @@ pub fn printout(input: &[u8]) -> Text
     if !is_readable(input) {
         return unread_text();
     }
-    let report = judge(registers(input), MEMORY_WORDS);
+    let report = judge(registers(input), BENCH_WORDS as usize);
     let verdict = report.verdict;
     let sections = report.sections;
     verdict_text(verdict, sections)

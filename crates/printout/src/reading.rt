@@ -6,6 +6,9 @@ ghost use Prim.Native.Nat.{_<_};
 ghost use Rattle.words.specs.Runs.{run};
 ghost use Rattle.printout.specs.Input.{digitOf, inPlace, readable, number, registersOf};
 
+// The length of the memory of document 01's bench cases.
+pub(crate) const BENCH_WORDS: u32 = 2560;
+
 // What a hex digit stands for; 16 for a byte that is none.
 fn digit_of(byte: u8) -> u32
     ensures { λ r. ⌜ r ≡ digitOf byte ⌝ }
@@ -82,5 +85,5 @@ pub(crate) fn registers(input: &[u8]) -> Registers
     ensures { λ r. ⌜ r ≡ registersOf (now (input .entry)) ⌝ }
 {
     let words = numbers(input);
-    Registers::from_words(&words, false, false)
+    Registers::from_words(&words, false, false, BENCH_WORDS)
 }

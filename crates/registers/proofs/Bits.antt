@@ -8,6 +8,7 @@ use Rattle.registers.specs.Promises.{FieldsAre, FieldsAreTheirBits, Name
 pub fields-are-their-bits : FieldsAreTheirBits
 unfolding fifoWord fifoCode
 fields-are-their-bits g = record {
+  memoryWords = refl;
   filters11 = refl;
   filters11Start = refl;
   filters29 = refl;

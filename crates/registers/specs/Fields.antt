@@ -9,6 +9,10 @@ use Rattle.registers.specs.Kinds.{txefcWatermark, txefcCount, txbcQueue,
 use Rattle.registers.specs.Kinds.{gfcAnfs, gfcAnfe, gfcRrfs, gfcRrfe, idMask}
 use Rattle.registers.specs.declared.Registers.{Registers}
 
+-- the memory's length in words, as given to the start
+abbrev pub memoryWords : Registers → ℕ
+memoryWords r = r .memory
+
 -- ---- filters
 
 -- of 11 bits: how many, and their first word

@@ -21,8 +21,8 @@ allNamed r =
     && onlyNamed xidam (r .xidam .word)
 
 -- the registers of these words, in the order of document 01's case A, the number of Rx buffers after them
-abbrev pub registersFrom : (ℕ → ℕ) → Bool → Bool → Registers
-registersFrom word fdon rateon = record {
+abbrev pub registersFrom : (ℕ → ℕ) → Bool → Bool → ℕ → Registers
+registersFrom word fdon rateon memory = record {
   sidfc = record { word = word 0 };
   xidfc = record { word = word 1 };
   rxf0c = record { word = word 2 };
@@ -37,9 +37,10 @@ registersFrom word fdon rateon = record {
   buffers = word 11;
   fdon = fdon;
   rateon = rateon;
+  memory = memory;
 }
 
--- the manual's reset words: all 0 but XIDAM
+-- the manual's reset words: all 0 but XIDAM. A reset gives no memory
 abbrev pub resetRegisters : Registers
 resetRegisters = record {
   sidfc = record { word = 0 };
@@ -56,4 +57,5 @@ resetRegisters = record {
   buffers = 0;
   fdon = false;
   rateon = false;
+  memory = 0;
 }

@@ -12,6 +12,8 @@ use Rattle.registers.specs.declared.Registers.{Registers}
 
 -- each name of a field is of the bits that the paper's table gives it
 pub record FieldsAre (g : Registers) : Type 0 where
+  -- the memory's length, a number of its own
+  pub memoryWords : Fields.memoryWords g ≡ g .memory
   -- SIDFC and XIDFC
   pub filters11 : Fields.filters11 g ≡ bits 23 16 (g .sidfc .word)
   pub filters11Start : Fields.filters11Start g ≡ bits 15 2 (g .sidfc .word)

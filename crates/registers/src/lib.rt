@@ -17,7 +17,7 @@ ghost use lib.ListN.{length, getD};
 ghost use Rattle.registers.specs.Fields.{fifoWord, fifoCode, txCount, isQueue};
 ghost use Rattle.registers.specs.Given.{allNamed, registersFrom, resetRegisters};
 
-// The eleven registers, the number of Rx buffers, and whether FD and the rate switch are on.
+// The eleven registers, the number of Rx buffers, whether FD and the rate switch are on, and the memory's length.
 pub struct Registers {
     pub sidfc: Sidfc,
     pub xidfc: Xidfc,
@@ -33,10 +33,11 @@ pub struct Registers {
     pub buffers: u32,
     pub fdon: bool,
     pub rateon: bool,
+    pub memory: u32,
 }
 
 impl Registers {
-    // The words that the manual gives after a reset, with no Rx buffer, FD off and the rate switch off.
+    // The words that the manual gives after a reset, with no Rx buffer, FD off, the rate switch off and no memory.
     pub fn reset() -> Self
         ensures { λ r. ⌜ r ≡ resetRegisters ⌝ }
     {
@@ -57,13 +58,14 @@ impl Registers {
             ],
             false,
             false,
+            0,
         )
     }
 
     // The registers of these words, in the order of document 01's case A, and after them the number of Rx buffers.
-    pub fn from_words(words: &[u32], fdon: bool, rateon: bool) -> Self
+    pub fn from_words(words: &[u32], fdon: bool, rateon: bool, memory: u32) -> Self
         requires { ⌜ 12 ≤ length (now words) ⌝ }
-        ensures { λ r. ⌜ r ≡ registersFrom (λ i. getD (now (words .entry)) i 0) fdon rateon ⌝ }
+        ensures { λ r. ⌜ r ≡ registersFrom (λ i. getD (now (words .entry)) i 0) fdon rateon memory ⌝ }
     {
         Self {
             sidfc: Sidfc { word: words[0] },
@@ -80,6 +82,7 @@ impl Registers {
             buffers: words[11],
             fdon,
             rateon,
+            memory,
         }
     }
 

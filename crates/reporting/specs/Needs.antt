@@ -6,7 +6,6 @@ use Rattle.ring.specs.Rings.{Fit}
 use Rattle.frame.specs.declared.Frame.{Frame}
 use Rattle.registers.specs.Fields.{txCount, eventSize}
 use Rattle.layout.specs.Legal.{Legal}
-use Rattle.layout.specs.Sections.{memoryWords}
 use Rattle.element.specs.Fitting.{InFields}
 use Rattle.places.specs.Areas.{Roomy}
 use Rattle.places.specs.declared.Area.{Area}
@@ -24,7 +23,7 @@ pub record Reportable (s : State) (words buffer : ℕ) : Type 0 where
 
 -- an event can be kept
 pub record CanTell (s : State) (words : ℕ) : Type 0 where
-  pub legal : Legal memoryWords (s .regs) words
+  pub legal : Legal (s .regs) words
   pub events : Fit (s .events) (eventSize (s .regs))
 
 -- an event can be written to a slot: it is in the area, if it is anywhere

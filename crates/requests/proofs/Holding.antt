@@ -23,7 +23,6 @@ use Rattle.element.specs.Word1.{txWord1}
 use Rattle.element.proofs.RoundTrip.{tx-back}
 use Rattle.element.proofs.Storing.{element-length}
 use Rattle.layout.specs.Legal.{Legal}
-use Rattle.layout.specs.Sections.{memoryWords}
 use Rattle.places.specs.Areas.{areaRange, areaEnd, placeIn}
 use Rattle.places.specs.declared.Area.{Area}
 use Rattle.areas.specs.Areas.{txArea, dataWords}
@@ -171,7 +170,7 @@ book-fits l s mem h = go (isQueue (s .regs)) refl
 -- ---- a world in step with the book
 
 module _ (l : Book) (w : World) (i : InStep l w) where
-  pub legal-in : Legal memoryWords (w .state .regs) (length (w .memory))
+  pub legal-in : Legal (w .state .regs) (length (w .memory))
   legal-in = sound-of (w .state) (w .recorded) (length (w .memory)) (i .fit) .legal
 
   pub room-in : areaEnd (txArea (w .state .regs)) ≤ length (w .memory)

@@ -17,7 +17,6 @@ use Rattle.ring.proofs.Fitness.{fit-none}
 use Rattle.ring.proofs.Holding.{empty-not-held}
 use Rattle.registers.specs.Fields.{fifoSize, eventSize, dedicated}
 use Rattle.registers.specs.declared.Registers.{Registers}
-use Rattle.layout.specs.Sections.{memoryWords}
 use Rattle.layout.specs.Verdict.{rules, verdict}
 use Rattle.layout.proofs.Accepted.{accepted-is-legal}
 use Rattle.engine.specs.Calls.{World, Outcome, isUnfit}
@@ -31,9 +30,9 @@ use Rattle.starting.specs.Starting.{unreported, starts}
 no-bit : (k : ℕ) → bit 0 k ≡ 0
 no-bit k = ap (λ (x : ℕ). x % 2) (zero-div (2 ^ k))
 
-empty-sound : (regs : Registers) (words : ℕ) → verdict memoryWords regs words ≡ allowed → Sound (emptyState regs) words
+empty-sound : (regs : Registers) (words : ℕ) → verdict regs words ≡ allowed → Sound (emptyState regs) words
 empty-sound regs words e = record {
-  legal = accepted-is-legal memoryWords regs words .0 e;
+  legal = accepted-is-legal regs words .0 e;
   fifo0 = fit-none (fifoSize regs 0) (omega arith);
   fifo1 = fit-none (fifoSize regs 1) (omega arith);
   events = fit-none (eventSize regs) (omega arith);
@@ -47,18 +46,18 @@ empty-sound regs words e = record {
       ∙ sym (empty-not-held noneHeld (sharedRingSize regs) p refl);
 }
 
-pub empty-is-fit : (regs : Registers) (words : ℕ) → verdict memoryWords regs words ≡ allowed
+pub empty-is-fit : (regs : Registers) (words : ℕ) → verdict regs words ≡ allowed
     → unfit (emptyState regs) noFlags words ≡ false
 empty-is-fit regs words e = fit-of (emptyState regs) noFlags words (empty-sound regs words e) (λ k f. no-bit k)
 
 -- the verdict is the first of the layout's rules
-pub start-ruled : (g : Registers) (words : ℕ) → first (rules memoryWords g words) ≡ verdict memoryWords g words
+pub start-ruled : (g : Registers) (words : ℕ) → first (rules g words) ≡ verdict g words
 unfolding verdict
 start-ruled g words = refl
 
 pub start-is-fit : StartIsFit
 start-is-fit w g =
-    call-cases w unreported (rules memoryWords g (length (w .memory))) (starts w g)
+    call-cases w unreported (rules g (length (w .memory))) (starts w g)
     (λ (o : Outcome (Unit {0})). o .says ≡ done → isUnfit (o .world) ≡ false)
     (λ n e. let z : _≡_ {A = ℕ} 0 1 = cc in absurd (omega arith))
     (λ e said. fit-of (starts w g .world .state) (starts w g .world .recorded) (length (w .memory))
@@ -66,7 +65,7 @@ start-is-fit w g =
 
 pub start-is-fresh : StartIsFresh
 start-is-fresh w g e =
-    let rows = rules memoryWords g (length (w .memory)) in
+    let rows = rules g (length (w .memory)) in
     subst (λ (o : Outcome (Unit {0})). Fresh g (w .memory) (o .world))
     (sym (call-answers w unreported rows (starts w g) tt e .1))
     (record {

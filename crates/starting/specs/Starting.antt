@@ -6,7 +6,7 @@ use Rattle.words.specs.Rules.{Ruling, allowed, refused}
 use Rattle.shape.specs.Calls.{Says, refuses, done, effect, call}
 use Rattle.shape.specs.Refusals.{Refusal}
 use Rattle.registers.specs.declared.Registers.{Registers}
-use Rattle.layout.specs.Sections.{memoryWords, none, sectionsOf}
+use Rattle.layout.specs.Sections.{none, sectionsOf}
 use Rattle.layout.specs.Verdict.{rules}
 use Rattle.layout.specs.declared.sections.Section.{Section}
 use Rattle.engine.specs.Calls.{World, world, Outcome, Effect}
@@ -31,4 +31,4 @@ starts w g = effect tt (world (emptyState g) noFlags (w .memory)) (flat (section
 
 -- call 1
 abbrev pub start : World → Registers → Outcome (Unit {0})
-start w g = call w unreported (rules memoryWords g (length (w .memory))) (starts w g)
+start w g = call w unreported (rules g (length (w .memory))) (starts w g)

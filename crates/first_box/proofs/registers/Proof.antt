@@ -19,6 +19,7 @@ returns c = λ i. record {
   buffers = 5;
   fdon = c .before .before .before .before .before .before .before .before .before .before .before .reset .ensures i .fdon;
   rateon = c .before .before .before .before .before .before .before .before .before .before .before .reset .ensures i .rateon;
+  memory = 2560;
 }
 
 pub registers-spec : {M : Type 1} → statement M

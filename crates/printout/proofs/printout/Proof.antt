@@ -12,5 +12,5 @@ printout-spec =
     (λ c κs. search needs) (λ c κs. search needs)
     (λ c. (search (not-read, not-true, needs), search needs))
     (λ c κs. search (is-read, not-false, needs))
-    (λ c κs. search needs) (λ c κs. search needs)
+    (λ c. search needs) (λ c κs. search needs) (λ c κs. search needs)
     (λ c. (search (read-told, not-false, needs), search needs)))

@@ -9,6 +9,7 @@ pub check-spec : {M : Type 1} → statement M
 check-spec =
     tie.close
     (tie.spec
+    (λ c κs. search needs)
     (λ c. search (says-10, needs))
     (λ c κs. search needs)
     (λ c. search (says-11, not-true, needs))
@@ -17,7 +18,7 @@ check-spec =
     (λ c κs. search needs)
     (λ c. search (says-13, not-false, needs))
     (λ c κs. search (few-buffers, needs))
-    (λ c κs. search needs)
+    (λ c. search needs) (λ c κs. search needs)
     (λ c. search (says-14, not-false, needs))
     (λ c κs. search needs)
     (λ c. search (says-15, not-false, needs)))
