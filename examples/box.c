@@ -14,6 +14,9 @@
 
 /* ---- a box: its three buffers as the calls take them, and what its interrupt has for itself */
 
+/* How long a memory these boxes have; a box may choose another length, to CUONGPHEMI_MEMORY_MOST. */
+#define BOX_MEMORY_WORDS 2560
+
 struct box {
     const char *name;
     uint32_t state[CUONGPHEMI_STATE_WORDS];
@@ -21,14 +24,13 @@ struct box {
         uint32_t words[CUONGPHEMI_RECORD_WORDS];
         struct cuongphemi_record fields;
     } record;
-    uint32_t memory[CUONGPHEMI_MEMORY_WORDS];
+    uint32_t memory[BOX_MEMORY_WORDS];
     struct cuongphemi_record own[2]; /* the interrupt's two records, which no call is lent */
     volatile unsigned raised_in;     /* in which of them it raises, 0 or 1 */
 };
 
 #define BOX(b) \
-    (b)->state, CUONGPHEMI_STATE_WORDS, (b)->record.words, CUONGPHEMI_RECORD_WORDS, (b)->memory, \
-        CUONGPHEMI_MEMORY_WORDS
+    (b)->state, CUONGPHEMI_STATE_WORDS, (b)->record.words, CUONGPHEMI_RECORD_WORDS, (b)->memory, BOX_MEMORY_WORDS
 
 /* The answer of the last call, and the bytes that it wrote. */
 static uint32_t answer[CUONGPHEMI_ANSWER_WORDS];
@@ -397,6 +399,7 @@ static void set_up_a(struct box *a)
         [CUONGPHEMI_REGISTER_RX_BUFFERS] = 2,
         [CUONGPHEMI_REGISTER_FD_ON] = CUONGPHEMI_YES,
         [CUONGPHEMI_REGISTER_RATE_SWITCH_ON] = CUONGPHEMI_YES,
+        [CUONGPHEMI_REGISTER_MEMORY_WORDS] = BOX_MEMORY_WORDS,
     };
     /* 200 to 2FF to FIFO 0, 300 to Rx buffer 1; 04000000 to 07FFFFFF with priority to FIFO 1 */
     a->memory[0] = CUONGPHEMI_FILTER_11(CUONGPHEMI_FILTER_RANGE, CUONGPHEMI_ACTION_FIFO0, 0x200, 0x2FF);
@@ -420,6 +423,7 @@ static void set_up_b(struct box *b)
                                                    CUONGPHEMI_NO, CUONGPHEMI_NO),
         [CUONGPHEMI_REGISTER_XIDAM] = CUONGPHEMI_XIDAM_RESET,
         [CUONGPHEMI_REGISTER_FD_ON] = CUONGPHEMI_YES,
+        [CUONGPHEMI_REGISTER_MEMORY_WORDS] = BOX_MEMORY_WORDS,
     };
     /* 110 rejected, else 100 to 1FF to FIFO 0 */
     b->memory[0] = CUONGPHEMI_FILTER_11(CUONGPHEMI_FILTER_RANGE, CUONGPHEMI_ACTION_REJECT, 0x110, 0x110);

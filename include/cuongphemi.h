@@ -5,10 +5,11 @@
  * buffers, says which of them goes out next, and lists what was sent. It knows no bus: the caller hands it the frames
  * that arrive and sends those that it names.
  *
- * Nothing is kept inside. A box of the caller's is three buffers, lent to each call: the state (27 words), the record
- * of flags and priority (2 words) and the memory (2,560 words). Several boxes are several such threes. There is no
- * heap, no global and no input or output, and every call ends. What each one returns and writes is proved for every
- * input; nothing but what is named below is written.
+ * Nothing is kept inside. A box of the caller's is three buffers, lent to each call: the state (28 words), the record
+ * of flags and priority (2 words) and the memory. The memory has 1 to 4,352 words: the box chooses, and says so at the
+ * start and with each call. Several boxes are several such threes. There is no heap, no global and no input or output,
+ * and every call ends. What each one returns and writes is proved for every input; nothing but what is named below is
+ * written.
  *
  * The archive libcuongphemi.a is compiled for x86-64 Linux (ELF objects, the System V calling convention), and nothing
  * else has to be linked. For any other target the Rattle source is the product: its toolchain compiles for x86-64
@@ -17,12 +18,11 @@
  * To begin:
  *     1. call cuongphemi_never_started on the state, before the first start;
  *     2. write the filter elements into the memory; the rest of it may be any words, and no start writes it;
- *     3. call cuongphemi_start with the registers.
- * Step 1 is not optional. With it every other call, until a start is accepted, returns 20 (CUONGPHEMI_REFUSED_UNFIT),
- * or 100 or 101, which are judged first. Zeroed buffers do not serve for it: a zeroed state is what a start with all
- * registers 0 leaves, a box without filters, FIFOs and buffers and with FD off, and the calls answer on it; a received
- * classic frame is lost, for one, and an FD frame is refused with 22. Words that were left from elsewhere may be taken
- * for a started box too.
+ *     3. call cuongphemi_start with the registers, the memory's length among them.
+ * After step 1 every other call, until a start is accepted, returns 20 (CUONGPHEMI_REFUSED_UNFIT), or 100 or 101,
+ * which are judged first. cuongphemi_never_started is the call made for it, and the one to use. A zeroed state serves
+ * as well, because its memory length is 0, which no start accepts. Words that were left from elsewhere do not: they
+ * may be taken for a started box.
  *
  * The caller's duty. A buffer is a pointer and the number of its words or bytes. The pointer is not null, also with a
  * count of 0; it is aligned for its type; so many words or bytes stand behind it; and no buffer that a call may write
@@ -45,7 +45,7 @@ extern "C" {
  * ---- the version of this interface, and as one number to compare. What old programs must be changed for raises the
  * major, what is added the minor, and what changes neither the patch.
  */
-#define CUONGPHEMI_VERSION_MAJOR 1
+#define CUONGPHEMI_VERSION_MAJOR 2
 #define CUONGPHEMI_VERSION_MINOR 0
 #define CUONGPHEMI_VERSION_PATCH 0
 #define CUONGPHEMI_VERSION \
@@ -60,16 +60,18 @@ extern "C" {
  */
 #define CUONGPHEMI_ACCEPTED 0
 /* of a start alone */
-#define CUONGPHEMI_REFUSED_WRONG_MEMORY 10    /* the memory isn't 2,560 words */
+#define CUONGPHEMI_REFUSED_WRONG_MEMORY 10    /* the memory's length that the registers give is 0, is over
+                                                 CUONGPHEMI_MEMORY_MOST or isn't that of the lent memory */
 #define CUONGPHEMI_REFUSED_UNNAMED_BIT 11     /* a register has a bit set that has no name */
 #define CUONGPHEMI_REFUSED_COUNT_OVER 12      /* a count is over its most; names the first such section */
 #define CUONGPHEMI_REFUSED_TX_OVER 13         /* dedicated and shared Tx buffers together are over 32 */
-#define CUONGPHEMI_REFUSED_PAST_MEMORY 14     /* a section ends past the memory; names the first such section */
+#define CUONGPHEMI_REFUSED_PAST_MEMORY 14     /* a section ends past the given length; names the first such section */
 #define CUONGPHEMI_REFUSED_OVERLAP 15         /* two sections share a word; names the first such pair, by
                                                  its lower section, then by the other */
 /* of every call but a start */
-#define CUONGPHEMI_REFUSED_UNFIT 20           /* the state doesn't fit its registers, this memory or the record, or
-                                                 was never started */
+#define CUONGPHEMI_REFUSED_UNFIT 20           /* the state doesn't fit its registers, this memory (of another length
+                                                 than the start was given, for one) or the record, or was never
+                                                 started */
 /* of the calls that say so */
 #define CUONGPHEMI_REFUSED_MALFORMED 21       /* the frame: an 11-bit identifier over 0x7FF, a 29-bit one over
                                                  0x1FFFFFFF, a DLC over 15, FD with remote, BRS or ESI without FDF, or
@@ -95,10 +97,10 @@ extern "C" {
 
 /* ---- how many words or bytes the buffers have */
 
-#define CUONGPHEMI_STATE_WORDS 27
+#define CUONGPHEMI_STATE_WORDS 28
 #define CUONGPHEMI_RECORD_WORDS 2
-#define CUONGPHEMI_MEMORY_WORDS 2560
-#define CUONGPHEMI_REGISTER_WORDS 14
+#define CUONGPHEMI_MEMORY_MOST 4352           /* a memory has 1 to so many words */
+#define CUONGPHEMI_REGISTER_WORDS 15
 #define CUONGPHEMI_FRAME_WORDS 7
 #define CUONGPHEMI_ANSWER_WORDS 16
 #define CUONGPHEMI_OUTPUT_BYTES 64
@@ -123,7 +125,7 @@ extern "C" {
  *
  * Every bit that has no name must be 0. A section's start is its first word's number in the memory; where the count is
  * 0 it plays no part. Below each register: its fields, its named bits (NAMED: all its fields together), and a macro
- * that makes the word of them. The words 11 to 13 have no fields.
+ * that makes the word of them. The words 11 to 14 have no fields.
  */
 #define CUONGPHEMI_REGISTER_SIDFC 0           /* 11-bit filters */
 #define CUONGPHEMI_REGISTER_XIDFC 1           /* 29-bit filters */
@@ -140,8 +142,10 @@ extern "C" {
 #define CUONGPHEMI_REGISTER_FD_ON 12          /* yes or no; no: a received FD frame is refused, one to send goes out
                                                  as classic: the DLC stays, at most 8 bytes, no BRS, no ESI */
 #define CUONGPHEMI_REGISTER_RATE_SWITCH_ON 13 /* yes or no; no: FD frames go out without BRS */
+#define CUONGPHEMI_REGISTER_MEMORY_WORDS 14   /* the memory's length in words, 1 to CUONGPHEMI_MEMORY_MOST; it must be
+                                                 the lent memory's */
 
-/* The most that a start accepts of each. */
+/* The most that a start accepts of each; of the memory's words, CUONGPHEMI_MEMORY_MOST. */
 #define CUONGPHEMI_FILTERS_11_MOST 128
 #define CUONGPHEMI_FILTERS_29_MOST 64
 #define CUONGPHEMI_FIFO_MOST 64
@@ -293,22 +297,22 @@ extern "C" {
 /*
  * ---- the state's words
  *
- * Words 0 to 13 are the registers of the last accepted start, by the names above. A program may read the others; it
+ * Words 0 to 14 are the registers of the last accepted start, by the names above. A program may read the others; it
  * writes none. Places count from 0 in their section, those of the shared FIFO from 0 at the first shared buffer.
  */
-#define CUONGPHEMI_STATE_FIFO0_OLDEST 14
-#define CUONGPHEMI_STATE_FIFO0_FILL 15
-#define CUONGPHEMI_STATE_FIFO1_OLDEST 16
-#define CUONGPHEMI_STATE_FIFO1_FILL 17
-#define CUONGPHEMI_STATE_EVENTS_OLDEST 18
-#define CUONGPHEMI_STATE_EVENTS_FILL 19
-#define CUONGPHEMI_STATE_SHARED_OLDEST 20     /* of a shared FIFO; 0 where it is a queue */
-#define CUONGPHEMI_STATE_SHARED_FILL 21       /* of a shared FIFO; 0 where it is a queue */
-#define CUONGPHEMI_STATE_NEW_DATA_LOW 22      /* a bit for each of Rx buffers 0 to 31 that holds new data */
-#define CUONGPHEMI_STATE_NEW_DATA_HIGH 23     /* and for 32 to 63 */
-#define CUONGPHEMI_STATE_PENDING 24           /* a bit for each Tx buffer that waits to be sent */
-#define CUONGPHEMI_STATE_SENT 25              /* whose latest request was sent; a new request clears it */
-#define CUONGPHEMI_STATE_CANCELLED 26         /* whose latest request was cancelled; a new request clears it */
+#define CUONGPHEMI_STATE_FIFO0_OLDEST 15
+#define CUONGPHEMI_STATE_FIFO0_FILL 16
+#define CUONGPHEMI_STATE_FIFO1_OLDEST 17
+#define CUONGPHEMI_STATE_FIFO1_FILL 18
+#define CUONGPHEMI_STATE_EVENTS_OLDEST 19
+#define CUONGPHEMI_STATE_EVENTS_FILL 20
+#define CUONGPHEMI_STATE_SHARED_OLDEST 21     /* of a shared FIFO; 0 where it is a queue */
+#define CUONGPHEMI_STATE_SHARED_FILL 22       /* of a shared FIFO; 0 where it is a queue */
+#define CUONGPHEMI_STATE_NEW_DATA_LOW 23      /* a bit for each of Rx buffers 0 to 31 that holds new data */
+#define CUONGPHEMI_STATE_NEW_DATA_HIGH 24     /* and for 32 to 63 */
+#define CUONGPHEMI_STATE_PENDING 25           /* a bit for each Tx buffer that waits to be sent */
+#define CUONGPHEMI_STATE_SENT 26              /* whose latest request was sent; a new request clears it */
+#define CUONGPHEMI_STATE_CANCELLED 27         /* whose latest request was cancelled; a new request clears it */
 
 /* A buffer's bit in these words; that of Rx buffers 32 to 63 in CUONGPHEMI_STATE_NEW_DATA_HIGH. */
 #define CUONGPHEMI_BUFFER_BIT(buffer) (UINT32_C(1) << ((buffer)&31))
@@ -536,12 +540,12 @@ void cuongphemi_priority_put(struct cuongphemi_record *record, uint32_t word);
 /*
  * ---- the calls
  *
- * Every one takes the box first. `answer` has 16 words, of which a call writes those that are named with it and leaves
- * the rest (NAME_ANSWER_WORDS says how many there are, from word 0 on); `output` has 64 bytes, of which it writes the
- * first few that it counts and leaves the rest. `fifo` is one of the two below. A `place` counts from 0 in its FIFO or
- * list, a `buffer` from 0. `data` is not null, also where a frame has no data. What a call can return is listed by
- * number; the numbers' names are above. Where a call has no yes-or-no word of its own, 101 speaks of the state's words
- * 12 and 13.
+ * Every one takes the box first; `memory_words` is the lent memory's length. `answer` has 16 words, of which a call
+ * writes those that are named with it and leaves the rest (NAME_ANSWER_WORDS says how many there are, from word 0 on);
+ * `output` has 64 bytes, of which it writes the first few that it counts and leaves the rest. `fifo` is one of the two
+ * below. A `place` counts from 0 in its FIFO or list, a `buffer` from 0. `data` is not null, also where a frame has no
+ * data. What a call can return is listed by number; the numbers' names are above. Where a call has no yes-or-no word
+ * of its own, 101 speaks of the state's words 12 and 13.
  */
 #define CUONGPHEMI_FIFO0 0
 #define CUONGPHEMI_FIFO1 1
@@ -555,7 +559,7 @@ uint32_t cuongphemi_never_started(uint32_t *state, size_t state_words);
 
 /*
  * Starts the box: an empty state with these registers, and a record of 0. The old state and the old record may be any
- * words; a refusal keeps them. The memory is only measured.
+ * words; a refusal keeps them. The memory is only measured; every later call is lent one of the same length.
  * Returns 0, 10 to 15, 100, 101 (101: the registers' words 12 and 13).
  */
 uint32_t cuongphemi_start(uint32_t *state, size_t state_words, uint32_t *record, size_t record_words,

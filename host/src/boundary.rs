@@ -5,14 +5,20 @@
 
 use crate::model::{self, *};
 
-pub const STATE_WORDS: usize = 27;
+pub const STATE_WORDS: usize = 28;
 pub const STATUS_WORDS: usize = 2;
-pub const REGISTER_WORDS: usize = 14;
+pub const REGISTER_WORDS: usize = 15;
 pub const FRAME_WORDS: usize = 7;
 pub const ANSWER_WORDS: usize = 16;
 
 /// The words of registers and of a state that say yes or no: FD on and rate switch on.
 pub const SAYS_YES_OR_NO: [usize; 2] = [12, 13];
+
+/// The word of registers and of a state that gives the memory's length.
+pub const LENGTH_WORD: usize = 14;
+
+/// The word of a state where the four rings begin, each with its oldest place and its fill.
+pub const FIRST_RING: usize = 15;
 
 pub const WRONG_LENGTH: u32 = 100;
 pub const NEITHER_YES_NOR_NO: u32 = 101;
@@ -147,9 +153,9 @@ fn yes(word: u32) -> Result<bool, u32> {
     }
 }
 
-/// The eleven registers, the Rx buffer count, FD on and rate switch on.
+/// The eleven registers, the Rx buffer count, FD on, rate switch on and the memory's length.
 #[inline(always)]
-fn unpack_registers(w: &[u32]) -> Result<Registers, u32> {
+pub fn unpack_registers(w: &[u32]) -> Result<Registers, u32> {
     Ok(Registers {
         sidfc: w[0],
         xidfc: w[1],
@@ -165,6 +171,7 @@ fn unpack_registers(w: &[u32]) -> Result<Registers, u32> {
         rx_buffers: w[11],
         fd_on: yes(w[12])?,
         rate_switch_on: yes(w[13])?,
+        memory_words: w[LENGTH_WORD],
     })
 }
 
@@ -174,22 +181,23 @@ pub fn pack_registers(r: &Registers, w: &mut [u32]) {
     w[11] = r.rx_buffers;
     w[12] = u32::from(r.fd_on);
     w[13] = u32::from(r.rate_switch_on);
+    w[LENGTH_WORD] = r.memory_words;
 }
 
 /// The registers, the four rings, and the bits of the buffers.
 #[inline(always)]
 pub fn unpack_state(w: &[u32]) -> Result<State, u32> {
-    let ring = |at: usize| Ring { oldest: w[at], fill: w[at + 1] };
+    let ring = |nth: usize| Ring { oldest: w[FIRST_RING + 2 * nth], fill: w[FIRST_RING + 2 * nth + 1] };
     Ok(State {
         registers: unpack_registers(w)?,
-        fifo0: ring(14),
-        fifo1: ring(16),
-        events: ring(18),
-        shared: ring(20),
-        new_data: u64::from(w[22]) | u64::from(w[23]) << 32,
-        pending: w[24],
-        sent: w[25],
-        cancelled: w[26],
+        fifo0: ring(0),
+        fifo1: ring(1),
+        events: ring(2),
+        shared: ring(3),
+        new_data: u64::from(w[23]) | u64::from(w[24]) << 32,
+        pending: w[25],
+        sent: w[26],
+        cancelled: w[27],
     })
 }
 
@@ -197,14 +205,14 @@ pub fn unpack_state(w: &[u32]) -> Result<State, u32> {
 pub fn pack_state(s: &State, w: &mut [u32]) {
     pack_registers(&s.registers, w);
     for (nth, ring) in [s.fifo0, s.fifo1, s.events, s.shared].into_iter().enumerate() {
-        w[14 + 2 * nth] = ring.oldest;
-        w[15 + 2 * nth] = ring.fill;
+        w[FIRST_RING + 2 * nth] = ring.oldest;
+        w[FIRST_RING + 2 * nth + 1] = ring.fill;
     }
-    w[22] = s.new_data as u32;
-    w[23] = (s.new_data >> 32) as u32;
-    w[24] = s.pending;
-    w[25] = s.sent;
-    w[26] = s.cancelled;
+    w[23] = s.new_data as u32;
+    w[24] = (s.new_data >> 32) as u32;
+    w[25] = s.pending;
+    w[26] = s.sent;
+    w[27] = s.cancelled;
 }
 
 pub fn unpack_record(w: &[u32]) -> Record {

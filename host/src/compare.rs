@@ -45,35 +45,33 @@ impl<T: fmt::LowerHex + Copy + Default, const N: usize> fmt::Debug for Room<T, N
 /// What calls change.
 #[derive(Clone, PartialEq, Eq)]
 pub struct Lent {
-    pub state: Room<u32, 32>,
+    pub state: Room<u32, 33>,
     pub status: Room<u32, 4>,
-    pub memory: Room<u32, 3072>,
+    pub memory: Room<u32, 4864>,
     pub output: Room<u8, 2048>,
     pub answer: Room<u32, 24>,
 }
 
+/// The longest memory that is lent; guard words stand behind it.
+const LENT_MOST: u32 = 4850;
+
 impl Lent {
-    pub fn new() -> Lent {
+    /// With a memory of so many words.
+    pub fn new(lent: usize) -> Lent {
         Lent {
             state: Room::new(STATE_WORDS),
             status: Room::new(STATUS_WORDS),
-            memory: Room::new(MEMORY_WORDS),
+            memory: Room::new(lent),
             output: Room::new(OUTPUT_BYTES),
             answer: Room::new(ANSWER_WORDS),
         }
     }
 }
 
-impl Default for Lent {
-    fn default() -> Lent {
-        Lent::new()
-    }
-}
-
 /// What calls are given. A call takes some of these.
 #[derive(Clone, Debug)]
 pub struct Inputs {
-    pub registers: Room<u32, 16>,
+    pub registers: Room<u32, 17>,
     pub frame: Room<u32, 9>,
     pub data: Room<u8, 2048>,
     pub time: u16,
@@ -220,6 +218,22 @@ const RAISED: &str = "raised flag";
 const STARTED_OVER: &str = "started over an old state with neither yes nor no in word";
 const NOT_STARTED_OVER: &str = "start refused over an old state with neither yes nor no in word";
 const INTERRUPTED: &str = "interrupt code (0 raise, 1 clear, 2 take, 3 put)";
+const STARTED_WITH: &str = "started with a memory (0 of one word, 1 to 2,559, 2 of 2,560, 3 to 4,351, 4 of 4,352)";
+const TO_THE_END: &str = "started with a section up to the last word of a memory (the same)";
+const ONE_PAST: &str = "refused with 14, one word past the end of a memory (the same)";
+const WRONG_MEMORY: &str = "refused with 10 for one reason alone (0 given 0, 1 over the most, 2 lent another)";
+const LENT_ANOTHER: &str = "another length is lent to a started engine, by call";
+
+/// A length that a start accepts, by its kind in the tally.
+fn length_kind(given: u32) -> u32 {
+    match given {
+        1 => 0,
+        BENCH_MEMORY_WORDS => 2,
+        MEMORY_MOST => 4,
+        _ if given < BENCH_MEMORY_WORDS => 1,
+        _ => 3,
+    }
+}
 
 impl Tally {
     fn note(&mut self, what: &'static str, number: u32) {
@@ -240,6 +254,11 @@ impl Tally {
         expected.extend(SAYS_YES_OR_NO.map(|at| (STARTED_OVER, at as u32)));
         expected.extend(SAYS_YES_OR_NO.map(|at| (NOT_STARTED_OVER, at as u32)));
         expected.extend((0..4).map(|step| (INTERRUPTED, step)));
+        for what in [STARTED_WITH, TO_THE_END, ONE_PAST] {
+            expected.extend((0..5).map(|kind| (what, kind)));
+        }
+        expected.extend((0..3).map(|reason| (WRONG_MEMORY, reason)));
+        expected.extend((2..=15).map(|call| (LENT_ANOTHER, call)));
 
         let pairs = NUMBERS.iter().flat_map(|(call, numbers)| numbers.iter().map(|number| (*call, *number)));
         let mut missing: Vec<String> = pairs
@@ -298,7 +317,7 @@ pub struct Comparison {
 impl Comparison {
     pub fn new(seed: u64) -> Comparison {
         let mut random = Random::new(seed);
-        let mut model = Box::new(Lent::new());
+        let mut model = Box::new(Lent::new(BENCH_MEMORY_WORDS as usize));
         model.memory.cells.iter_mut().for_each(|word| *word = random.word());
         Comparison { seed, random, inputs: Inputs::new(), library: model.clone(), model, tally: Tally::default() }
     }
@@ -330,11 +349,41 @@ impl Comparison {
             for at in SAYS_YES_OR_NO.into_iter().filter(|at| before.1[*at] > 1) {
                 self.tally.note(over, at as u32);
             }
+            self.note_length(number);
         }
         if number == 0 {
             self.note_outcome(call, before.0, &before.1);
         }
         number
+    }
+
+    /// What a start made of the memory's length.
+    fn note_length(&mut self, number: u32) {
+        let Ok(registers) = unpack_registers(self.inputs.registers.lent()) else {
+            return;
+        };
+        let (given, lent) = (registers.memory_words, self.model.memory.length);
+        let named = self.model.answer.cells[0] as usize;
+        let end = |section: &Section| section.start + section.words;
+        match number {
+            0 => {
+                self.tally.note(STARTED_WITH, length_kind(given));
+                if sections(&registers).iter().any(|section| end(section) == given) {
+                    self.tally.note(TO_THE_END, length_kind(given));
+                }
+            }
+            10 => {
+                let reasons = [given == 0, given > MEMORY_MOST, given as usize != lent];
+                let mut met = (0..3).filter(|reason| reasons[*reason]);
+                if let (Some(alone), None) = (met.next(), met.next()) {
+                    self.tally.note(WRONG_MEMORY, alone as u32);
+                }
+            }
+            14 if end(&section(&registers, named)) == given + 1 => {
+                self.tally.note(ONE_PAST, length_kind(given));
+            }
+            _ => {}
+        }
     }
 
     /// What an accepted call came to.
@@ -354,7 +403,7 @@ impl Comparison {
                 let fifo = answer[1];
                 self.tally.note(STORED[fifo as usize & 1], r.fifo_size_code(fifo));
                 // The fill stands behind the oldest place.
-                let fill = 15 + 2 * fifo as usize;
+                let fill = FIRST_RING + 2 * fifo as usize + 1;
                 if state_before[fill] == self.model.state.cells[fill] {
                     self.tally.note(OVERWRITTEN, fifo);
                 }
@@ -404,9 +453,11 @@ impl Comparison {
         let (l, m) = (&self.library, &self.model);
         let seed = self.seed;
         let nth = self.tally.calls;
+        let lent = m.memory.length;
         format!(
             "library and model differ at call {nth} of seed {seed}: {call:?}, library {number}, model {wanted}\n"
-        ) + &cells("state", &l.state, &m.state)
+        ) + &format!("  {lent} words of memory are lent\n")
+            + &cells("state", &l.state, &m.state)
             + &cells("status", &l.status, &m.status)
             + &cells("memory", &l.memory, &m.memory)
             + &cells("output", &l.output, &m.output)
@@ -427,6 +478,19 @@ impl Comparison {
         self.share();
     }
 
+    fn lend_memory(&mut self, length: u32) {
+        self.model.memory.length = length as usize;
+        self.library.memory.length = length as usize;
+    }
+
+    /// The length that a call goes by: a start is given one, every other finds one in the state.
+    fn given(&self, call: Call) -> u32 {
+        match call {
+            Start => self.inputs.registers.cells[LENGTH_WORD],
+            _ => self.model.state.cells[LENGTH_WORD],
+        }
+    }
+
     fn lend_state(&mut self, state: &State, record: &Record) {
         self.model.state.length = STATE_WORDS;
         self.model.status.length = STATUS_WORDS;
@@ -439,7 +503,7 @@ impl Comparison {
         let registers = legal_registers(&mut self.random);
         let (state, record) = arbitrary_state(&mut self.random);
         self.lend_state(&state, &record);
-        self.model.memory.length = MEMORY_WORDS;
+        self.lend_memory(registers.memory_words);
         self.model.answer.length = ANSWER_WORDS;
         put_filters(&mut self.random, &registers, self.model.memory.lent_mut());
         // A start takes any old state, also one that says neither yes nor no.
@@ -457,13 +521,14 @@ impl Comparison {
                 mood = self.random.below(MOODS.len() as u32) as usize;
             }
             let state = unpack_state(self.model.state.lent()).expect("a started state says yes or no");
+            self.lend_memory(state.registers.memory_words);
             if self.random.once_in(300) {
                 put_filters(&mut self.random, &state.registers, self.model.memory.lent_mut());
                 self.share();
             }
             // The caller may change any word of the memory.
             if self.random.once_in(100) {
-                let at = self.random.below(MEMORY_WORDS as u32) as usize;
+                let at = self.random.below(state.registers.memory_words) as usize;
                 self.model.memory.cells[at] = self.random.word();
                 self.share();
             }
@@ -475,8 +540,19 @@ impl Comparison {
             }
             let call = if self.random.once_in(400) { Start } else { self.call_by_mood(&MOODS[mood]) };
             self.sensible_inputs(call, &state);
+            let given = self.given(call);
+            let lent = match call {
+                Start => lent_length(&mut self.random, given, LENT_MOST),
+                _ if self.random.once_in(100) => other_length(&mut self.random, given, LENT_MOST),
+                _ => given,
+            };
+            self.lend_memory(lent);
             let number = self.call(call);
-            assert_ne!(number, 20, "a started engine never meets 20");
+            let another = call != Start && lent != given;
+            assert_eq!(number == 20, another, "a started engine meets 20 by a memory of another length alone");
+            if another {
+                self.tally.note(LENT_ANOTHER, call as u32 + 1);
+            }
         }
     }
 
@@ -558,7 +634,7 @@ impl Comparison {
             ReadBuffer | ReleaseBuffer => i.buffer = mostly_set(random, state.new_data, r.rx_buffers),
             Cancel => i.buffer = mostly_set(random, u64::from(state.pending), r.tx_buffers()),
             ReportSent => {
-                let chosen = chosen_buffer(state, self.model.memory.lent());
+                let chosen = chosen_buffer(state, &self.model.memory.cells);
                 i.buffer = chosen.filter(|_| !random.once_in(5)).unwrap_or(random.below(34));
             }
             ReadEvent | AcknowledgeEvent => i.place = mostly_held(random, state.events, r.events_size()),
@@ -584,29 +660,25 @@ impl Comparison {
                 self.wild_inputs();
                 self.wild_lengths();
                 self.wild_words();
+                let given = self.given(call);
+                let lent = lent_length(&mut self.random, given, LENT_MOST);
+                self.lend_memory(lent);
                 self.call(call);
             }
         }
     }
 
-    /// Arbitrary words in a part of the memory, now and then filters that match, and sometimes another length.
+    /// Arbitrary words in a part of the memory, and now and then filters that match.
     fn wild_memory(&mut self, registers: &Registers) {
         let random = &mut self.random;
-        let memory = &mut self.model.memory;
-        memory.length = MEMORY_WORDS;
+        let memory = &mut self.model.memory.cells;
         if random.once_in(20) {
-            let at = random.below(MEMORY_WORDS as u32) as usize;
-            memory.cells[at..].iter_mut().take(200).for_each(|word| *word = random.odd_word());
+            let at = random.below(MEMORY_MOST) as usize;
+            memory[at..].iter_mut().take(200).for_each(|word| *word = random.odd_word());
         }
-        if random.once_in(10) && layout_verdict(registers, MEMORY_WORDS).is_ok() {
-            put_filters(random, registers, memory.lent_mut());
-        }
-        if random.once_in(30) {
-            memory.length = match random.below(3) {
-                0 => random.below(20) as usize,
-                1 => MEMORY_WORDS - 1 + 2 * random.below(2) as usize,
-                _ => random.below(3060) as usize,
-            };
+        let given = registers.memory_words as usize;
+        if random.once_in(10) && layout_verdict(registers, given).is_ok() {
+            put_filters(random, registers, &mut memory[..given]);
         }
     }
 
@@ -645,13 +717,13 @@ impl Comparison {
                 right
             }
         };
-        self.model.state.length = wild(STATE_WORDS, 32);
+        self.model.state.length = wild(STATE_WORDS, 33);
         self.model.status.length = wild(STATUS_WORDS, 4);
         self.model.answer.length = wild(ANSWER_WORDS, 24);
         self.library.state.length = self.model.state.length;
         self.library.status.length = self.model.status.length;
         self.library.answer.length = self.model.answer.length;
-        self.inputs.registers.length = wild(REGISTER_WORDS, 16);
+        self.inputs.registers.length = wild(REGISTER_WORDS, 17);
         self.inputs.frame.length = wild(FRAME_WORDS, 9);
     }
 

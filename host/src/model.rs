@@ -11,13 +11,13 @@
 // What the handler holds
 // ------------------------------------------------------------------------------------------------------
 
-/// The memory has 2,560 words of 32 bits.
-pub const MEMORY_WORDS: usize = 2560;
+/// The memory has 1 to 4,352 words of 32 bits.
+pub const MEMORY_MOST: u32 = 4352;
 
 /// A lent output has 64 bytes.
 pub const OUTPUT_BYTES: usize = 64;
 
-/// The eleven register words and the three further inputs of a start.
+/// The eleven register words and the four further inputs of a start.
 #[derive(Clone, Copy, Debug, PartialEq, Eq, Default)]
 pub struct Registers {
     pub sidfc: u32,
@@ -35,6 +35,8 @@ pub struct Registers {
     pub rx_buffers: u32,
     pub fd_on: bool,
     pub rate_switch_on: bool,
+    /// The memory's length in words, as a start is given it. It is in no register either.
+    pub memory_words: u32,
 }
 
 /// A circle of places: the oldest held place and how many are held from there on.
@@ -61,7 +63,7 @@ pub struct State {
 }
 
 impl State {
-    /// A state before any start: its GFC has bits that no start accepts, so every other call gives 20.
+    /// A state before any start: no start accepts its GFC, nor a length of 0, so every other call gives 20.
     pub fn never_started() -> State {
         let registers = Registers { gfc: 0xFFFF_FFFF, ..Registers::default() };
         State { registers, ..State::default() }
@@ -192,7 +194,7 @@ const NAMED_BITS: [u32; 11] = {
 };
 
 impl Registers {
-    /// The values after a reset: all 0, but the mask of 29-bit identifiers all ones.
+    /// The values after a reset: all 0, but the mask of 29-bit identifiers all ones. A reset gives no length.
     pub fn reset() -> Registers {
         Registers { xidam: 0x1FFF_FFFF, ..Registers::default() }
     }
@@ -409,11 +411,14 @@ fn refuse_start<T>(number: u32, first: u32, second: u32) -> Result<T, StartRefus
     Err(StartRefusal { number, first, second })
 }
 
-/// The layout verdict: the sections as reported, or one of 10 to 15. The lowest number is given.
+/// The layout verdict on a memory of `lent` words: the sections as reported, or one of 10 to 15. The lowest number is
+/// given.
 #[inline]
-pub fn layout_verdict(registers: &Registers, memory_length: usize) -> Result<[Section; 7], StartRefusal> {
-    // 10: the memory isn't 2,560 words.
-    if memory_length != MEMORY_WORDS {
+pub fn layout_verdict(registers: &Registers, lent: usize) -> Result<[Section; 7], StartRefusal> {
+    let given = registers.memory_words;
+
+    // 10: the length given is 0, above 4,352, or not that of the memory.
+    if given == 0 || given > MEMORY_MOST || given as usize != lent {
         return refuse_start(10, NO_SECTION, NO_SECTION);
     }
 
@@ -445,10 +450,10 @@ pub fn layout_verdict(registers: &Registers, memory_length: usize) -> Result<[Se
         return refuse_start(13, NO_SECTION, NO_SECTION);
     }
 
-    // 14: a section ends past the memory; the first is named.
+    // 14: a section ends past the given length; the first is named.
     let all = sections(registers);
     for (section, place) in all.iter().enumerate() {
-        if place.end() as usize > memory_length {
+        if place.end() > given {
             return refuse_start(14, section as u32, NO_SECTION);
         }
     }
@@ -514,12 +519,12 @@ fn ring_fits(ring: Ring, size: u32) -> bool {
 /// The flags that exist: 0 to 15 and 19.
 pub const FLAGS: u32 = 0xFFFF | 1 << 19;
 
-/// 20: the state is unfit.
-pub fn unfit(state: &State, record: &Record, memory_length: usize) -> bool {
+/// 20: the state is unfit for a memory of `lent` words.
+pub fn unfit(state: &State, record: &Record, lent: usize) -> bool {
     let r = &state.registers;
 
-    // Start would refuse the state's registers with this memory.
-    if layout_verdict(r, memory_length).is_err() {
+    // Start would refuse the state's registers, its own length among them, with this memory.
+    if layout_verdict(r, lent).is_err() {
         return true;
     }
 
@@ -954,9 +959,9 @@ pub fn start(
     state: &mut State,
     record: &mut Record,
     registers: Registers,
-    memory_length: usize,
+    lent: usize,
 ) -> Result<[Section; 7], StartRefusal> {
-    let layout = layout_verdict(&registers, memory_length)?;
+    let layout = layout_verdict(&registers, lent)?;
     *state = State { registers, ..State::default() };
     *record = Record::default();
     Ok(layout)
@@ -1500,6 +1505,9 @@ pub fn status(state: &State, record: &Record, memory: &[u32]) -> Result<Status, 
 // Bench cases
 // ------------------------------------------------------------------------------------------------------
 
+/// The bench cases' memory.
+pub const BENCH_MEMORY_WORDS: u32 = 2560;
+
 /// The twelve values of a bench input, or nothing if it is not twelve lines of eight hex digits.
 pub fn bench_values(input: &[u8]) -> Option<[u32; 12]> {
     let mut values = [0u32; 12];
@@ -1537,8 +1545,9 @@ pub fn layout_printout(input: &[u8]) -> String {
         rx_buffers: v[11],
         fd_on: false,
         rate_switch_on: false,
+        memory_words: BENCH_MEMORY_WORDS,
     };
-    match layout_verdict(&registers, MEMORY_WORDS) {
+    match layout_verdict(&registers, BENCH_MEMORY_WORDS as usize) {
         Err(no) => format!("layout refused {} {} {}\n", no.number, no.first, no.second),
         Ok(layout) => {
             let mut text = "layout ok\n".to_string();

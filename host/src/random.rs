@@ -95,8 +95,75 @@ fn watermark(random: &mut Random, count: u32, field: u32) -> u32 {
     }
 }
 
-/// A register set that start accepts: random counts and sizes, placed in random order without overlap.
+/// A length that start accepts: half of them 2,560, else one beside it, the ends, a small one, or any.
+pub fn memory_length(random: &mut Random) -> u32 {
+    match random.below(16) {
+        0..=7 => BENCH_MEMORY_WORDS,
+        8 => random.between(BENCH_MEMORY_WORDS - 1, BENCH_MEMORY_WORDS + 1),
+        9 => 1,
+        10 => MEMORY_MOST - 1,
+        11 => MEMORY_MOST,
+        12 => random.between(1, 100),
+        _ => random.between(1, MEMORY_MOST),
+    }
+}
+
+/// A length that no start accepts: none, just over the most, or huge with low bits that alone would be right.
+pub fn wrong_length(random: &mut Random) -> u32 {
+    match random.below(6) {
+        0 | 1 => 0,
+        2 => MEMORY_MOST + 1,
+        3 => random.between(MEMORY_MOST + 1, MEMORY_MOST + 8),
+        4 => 1 << random.between(13, 31) | memory_length(random),
+        _ => u32::MAX - random.below(3),
+    }
+}
+
+/// A length of any kind: often right, often wrong.
+fn any_length(random: &mut Random) -> u32 {
+    match random.below(4) {
+        0 => random.odd_word(),
+        1 => wrong_length(random),
+        _ => memory_length(random),
+    }
+}
+
+/// Another length than is given, up to `room`: one word more or less, none, just over the most, or any.
+pub fn other_length(random: &mut Random, given: u32, room: u32) -> u32 {
+    loop {
+        let lent = match random.below(5) {
+            0 => given.saturating_add(1),
+            1 => given.saturating_sub(1),
+            2 => 0,
+            3 => MEMORY_MOST + 1,
+            _ => random.between(0, room),
+        };
+        if lent != given && lent <= room {
+            return lent;
+        }
+    }
+}
+
+/// What is lent where a length is given: mostly as many words. Of a huge length sometimes its low bits.
+pub fn lent_length(random: &mut Random, given: u32, room: u32) -> u32 {
+    let low = given & 0xFFFF;
+    if given <= room && !random.once_in(30) {
+        given
+    } else if low != given && low <= room && random.coin() {
+        low
+    } else {
+        other_length(random, given, room)
+    }
+}
+
+/// A register set that start accepts: a length, and a layout for it.
 pub fn legal_registers(random: &mut Random) -> Registers {
+    let memory_words = memory_length(random);
+    legal_registers_for(random, memory_words)
+}
+
+/// The same for one length: random counts and sizes, placed in random order without overlap.
+pub fn legal_registers_for(random: &mut Random, memory_words: u32) -> Registers {
     let code: [u32; 4] = [random.below(8), random.below(8), random.below(8), random.below(8)];
     let each = [
         1,
@@ -114,7 +181,7 @@ pub fn legal_registers(random: &mut Random) -> Registers {
         *value = count(random, MOST[section]);
     }
     let words = |counts: &[u32; 7]| -> [u32; 7] { std::array::from_fn(|s| counts[s] * each[s]) };
-    while words(&counts).iter().sum::<u32>() as usize > MEMORY_WORDS {
+    while words(&counts).iter().sum::<u32>() > memory_words {
         let sizes = words(&counts);
         let largest = (0..7).max_by_key(|s| sizes[*s]).unwrap_or(0);
         counts[largest] /= 2;
@@ -126,7 +193,7 @@ pub fn legal_registers(random: &mut Random) -> Registers {
     for last in (1..7).rev() {
         order.swap(last, random.below(last as u32 + 1) as usize);
     }
-    let mut spare = MEMORY_WORDS as u32 - sizes.iter().sum::<u32>();
+    let mut spare = memory_words - sizes.iter().sum::<u32>();
     let mut at = 0;
     let mut starts = [0u32; 7];
     for (nth, section) in order.into_iter().enumerate() {
@@ -134,9 +201,11 @@ pub fn legal_registers(random: &mut Random) -> Registers {
             starts[section] = random.below(1 << 14);
             continue;
         }
-        let gap = match random.below(3) {
+        let gap = match random.below(4) {
             0 => 0,
             1 => random.between(0, spare.min(3)),
+            // The last section ends with the last word.
+            2 if nth == 6 => spare,
             _ => random.between(0, if nth == 6 { spare } else { spare / 2 }),
         };
         spare -= gap;
@@ -168,6 +237,7 @@ pub fn legal_registers(random: &mut Random) -> Registers {
         rx_buffers: counts[4],
         fd_on: !random.once_in(3),
         rate_switch_on: random.coin(),
+        memory_words,
     }
 }
 
@@ -190,12 +260,18 @@ fn register_word(registers: &mut Registers, number: u32) -> &mut u32 {
 
 /// A legal register set with one or two small changes, so that it often just fails.
 pub fn nearly_legal_registers(random: &mut Random) -> Registers {
-    let mut registers = legal_registers(random);
+    let memory_words = memory_length(random);
+    nearly_legal_registers_for(random, memory_words)
+}
+
+/// The same, changed from one that is legal for this length.
+pub fn nearly_legal_registers_for(random: &mut Random, memory_words: u32) -> Registers {
+    let mut registers = legal_registers_for(random, memory_words);
     // The registers with a start in bits 15:2, and those with a count in bits from 16 on.
     let with_start = [0, 1, 2, 3, 4, 6, 7];
     let with_count = [0, 1, 2, 3, 6, 7];
     for _ in 0..random.between(1, 2) {
-        match random.below(6) {
+        match random.below(7) {
             // Any one bit.
             0 => {
                 let number = random.below(11);
@@ -209,11 +285,17 @@ pub fn nearly_legal_registers(random: &mut Random) -> Registers {
                 let moved = start.wrapping_add(random.between(0, 8)).wrapping_sub(4) & 0x3FFF;
                 *value = (*value & !0xFFFC) | moved << 2;
             }
-            // A start close to the end of the memory.
+            // A section that starts close to the end of the memory, or ends with its last word or one word past it.
             2 => {
-                let number = with_start[random.below(7) as usize];
-                let value = register_word(&mut registers, number);
-                *value = (*value & !0xFFFC) | random.between(2400, 2570) << 2;
+                let number = random.below(7) as usize;
+                let start = if random.coin() {
+                    random.between(memory_words.saturating_sub(150), memory_words + 10)
+                } else {
+                    let end = memory_words + random.below(2);
+                    end.saturating_sub(section(&registers, number).words)
+                };
+                let value = register_word(&mut registers, with_start[number]);
+                *value = (*value & !0xFFFC) | start << 2;
             }
             // One more of something.
             3 => {
@@ -226,7 +308,15 @@ pub fn nearly_legal_registers(random: &mut Random) -> Registers {
                 registers.txbc =
                     (registers.txbc & 0x4000_FFFC) | random.between(0, 34) << 24 | random.between(0, 34) << 16;
             }
-            // The Rx buffer count, which may be any number.
+            // The memory's length, which may be any number.
+            5 => {
+                registers.memory_words = match random.below(3) {
+                    0 => registers.memory_words.wrapping_add(1),
+                    1 => registers.memory_words.wrapping_sub(1),
+                    _ => wrong_length(random),
+                };
+            }
+            // The Rx buffer count, which may be any number too.
             _ => {
                 registers.rx_buffers = match random.below(3) {
                     0 => random.between(62, 66),
@@ -239,7 +329,7 @@ pub fn nearly_legal_registers(random: &mut Random) -> Registers {
     registers
 }
 
-/// Arbitrary words in all registers.
+/// Arbitrary words in all registers, with a length that is often right.
 pub fn arbitrary_registers(random: &mut Random) -> Registers {
     let mut registers = Registers::default();
     for number in 0..11 {
@@ -248,6 +338,7 @@ pub fn arbitrary_registers(random: &mut Random) -> Registers {
     registers.rx_buffers = random.odd_word();
     registers.fd_on = random.coin();
     registers.rate_switch_on = random.coin();
+    registers.memory_words = any_length(random);
     registers
 }
 
@@ -313,7 +404,7 @@ pub fn arbitrary_frame(random: &mut Random) -> (Frame, Vec<u8>) {
     (frame, data)
 }
 
-/// Fills both filter lists with elements that the identifiers above often meet. The memory has its full length.
+/// Fills both filter lists with elements that the identifiers above often meet. The memory is as long as is given.
 pub fn put_filters(random: &mut Random, registers: &Registers, memory: &mut [u32]) {
     let all = sections(registers);
     for index in 0..registers.standard_filters() {
@@ -389,8 +480,9 @@ pub fn fit_state(random: &mut Random) -> (State, Record) {
 /// A fit state with one change, which often makes it unfit.
 pub fn nearly_fit_state(random: &mut Random) -> (State, Record) {
     let (mut state, mut record) = fit_state(random);
-    match random.below(9) {
+    match random.below(10) {
         0 => state.registers = nearly_legal_registers(random),
+        9 => state.registers.memory_words = any_length(random),
         1 => state.pending ^= 1 << random.below(32),
         2 => state.sent ^= 1 << random.below(32),
         3 => state.cancelled ^= 1 << random.below(32),

@@ -1,6 +1,7 @@
 //! The real bench program beside the model: for the same input bytes both print the same.
 
-use cuongphemi_host::{model, random};
+use cuongphemi_host::model::{self, BENCH_MEMORY_WORDS};
+use cuongphemi_host::random;
 use std::io::Write;
 use std::path::PathBuf;
 use std::process::{Command, Stdio};
@@ -10,8 +11,8 @@ const INPUTS: u32 = 2_000;
 /// Registers of all kinds in the program's twelve lines, now and then with one byte replaced by any other.
 fn input(source: &mut random::Random, turn: u32) -> Vec<u8> {
     let registers = match turn % 4 {
-        0 => random::legal_registers(source),
-        1 | 2 => random::nearly_legal_registers(source),
+        0 => random::legal_registers_for(source, BENCH_MEMORY_WORDS),
+        1 | 2 => random::nearly_legal_registers_for(source, BENCH_MEMORY_WORDS),
         _ => random::arbitrary_registers(source),
     };
     let mut lines = String::new();

@@ -31,6 +31,7 @@ fn every_name_is_the_hosts_number() {
     groups.into_iter().for_each(|group| group(&h));
     for calls in [&Model as &dyn Calls, &Library] {
         start_numbers(&h, calls);
+        memory_most(&h, calls);
         named_bits(&h, calls);
         call_numbers(&h, calls);
         received(&h, calls);
@@ -292,7 +293,6 @@ impl Expression<'_> {
 fn sizes(h: &Header) {
     h.same("STATE_WORDS", STATE_WORDS as u32);
     h.same("RECORD_WORDS", STATUS_WORDS as u32);
-    h.same("MEMORY_WORDS", MEMORY_WORDS as u32);
     h.same("REGISTER_WORDS", REGISTER_WORDS as u32);
     h.same("FRAME_WORDS", FRAME_WORDS as u32);
     h.same("ANSWER_WORDS", ANSWER_WORDS as u32);
@@ -315,6 +315,7 @@ const DISTINCT: Registers = Registers {
     rx_buffers: 111,
     fd_on: true,
     rate_switch_on: false,
+    memory_words: 112,
 };
 
 fn register_words(h: &Header) {
@@ -335,6 +336,7 @@ fn register_words(h: &Header) {
     h.place("REGISTER_RX_BUFFERS", &words, r.rx_buffers);
     h.place("REGISTER_FD_ON", &words, h.number("YES"));
     h.place("REGISTER_RATE_SWITCH_ON", &words, h.number("NO"));
+    h.place("REGISTER_MEMORY_WORDS", &words, r.memory_words);
     pack_registers(&Registers { fd_on: false, rate_switch_on: true, ..r }, &mut words);
     h.place("REGISTER_FD_ON", &words, h.number("NO"));
     h.place("REGISTER_RATE_SWITCH_ON", &words, h.number("YES"));
@@ -371,6 +373,7 @@ fn state_words(h: &Header) {
     // The state begins with the registers, under the same names.
     h.place("REGISTER_SIDFC", &words, DISTINCT.sidfc);
     h.place("REGISTER_RX_BUFFERS", &words, DISTINCT.rx_buffers);
+    h.place("REGISTER_MEMORY_WORDS", &words, DISTINCT.memory_words);
 }
 
 fn frame_words(h: &Header) {
@@ -643,6 +646,7 @@ fn limits(h: &Header) {
     h.same("RX_BUFFERS_MOST", MOST[RX_BUFFERS]);
     h.same("EVENTS_MOST", MOST[TX_EVENTS]);
     h.same("TX_BUFFERS_MOST", MOST[TX_BUFFERS]);
+    h.same("MEMORY_MOST", MEMORY_MOST);
     let most = |name: &str, frame: fn(u32) -> Frame| {
         let [at_most, over] = [0, 1].map(|more| malformed(&frame(h.number(name) + more), &[]));
         assert_eq!((at_most, over), (false, true), "{name}");
@@ -743,6 +747,7 @@ const BOX: Registers = Registers {
     rx_buffers: 4,
     fd_on: true,
     rate_switch_on: true,
+    memory_words: BENCH_MEMORY_WORDS,
 };
 
 /// What stands in an answer's word that no call wrote.
@@ -757,7 +762,7 @@ impl Lent<'_> {
             calls,
             state: [0; STATE_WORDS],
             record: [0; STATUS_WORDS],
-            memory: vec![0; MEMORY_WORDS],
+            memory: vec![0; BENCH_MEMORY_WORDS as usize],
             output: vec![0; OUTPUT_BYTES],
             answer: vec![0; ANSWER_WORDS],
         };
@@ -862,6 +867,17 @@ fn start_numbers(h: &Header, calls: &dyn Calls) {
     h.same("REFUSED_WRONG_LENGTH", lent.start(&BOX));
 }
 
+/// A start accepts a memory of 1 to so many words, and no other.
+fn memory_most(h: &Header, calls: &dyn Calls) {
+    let mut lent = Lent::new(calls);
+    let most = h.number("MEMORY_MOST");
+    for memory_words in [0, 1, most, most + 1] {
+        lent.memory.resize(memory_words as usize, 0);
+        let wanted = if (1..=most).contains(&memory_words) { "ACCEPTED" } else { "REFUSED_WRONG_MEMORY" };
+        h.same(wanted, lent.start(&Registers { memory_words, ..Registers::reset() }));
+    }
+}
+
 /// A start refuses exactly the bits that have no name, and so what a macro makes of a value that does not fit.
 fn named_bits(h: &Header, calls: &dyn Calls) {
     let mut lent = Lent::new(calls);
@@ -872,6 +888,7 @@ fn named_bits(h: &Header, calls: &dyn Calls) {
         let mut refused = |value: u32| {
             let mut words = [0; REGISTER_WORDS];
             words[place] = value;
+            words[h.number("REGISTER_MEMORY_WORDS") as usize] = BENCH_MEMORY_WORDS;
             lent.start_of_words(&words) == h.number("REFUSED_UNNAMED_BIT")
         };
         let name = if register.starts_with("RXF") { "RXFC" } else { register };
@@ -986,8 +1003,15 @@ fn priority(h: &Header, calls: &dyn Calls) {
 /// The bit that a buffer sets in the state: each Rx buffer as it is filled, each Tx buffer as it is asked for.
 fn buffer_bits(h: &Header, calls: &dyn Calls) {
     let mut lent = Lent::new(calls);
-    let (rxbc, txbc) = (100 << 2, 32 << 16 | 500 << 2);
-    let registers = Registers { sidfc: 1 << 16, rxbc, rx_buffers: 64, txbc, fd_on: true, ..Registers::reset() };
+    let registers = Registers {
+        sidfc: 1 << 16,
+        rxbc: 100 << 2,
+        rx_buffers: 64,
+        txbc: 32 << 16 | 500 << 2,
+        fd_on: true,
+        memory_words: BENCH_MEMORY_WORDS,
+        ..Registers::reset()
+    };
     h.same("ACCEPTED", lent.start(&registers));
     for buffer in 0..64 {
         let word = h.number(if buffer < 32 { "STATE_NEW_DATA_LOW" } else { "STATE_NEW_DATA_HIGH" }) as usize;
@@ -1044,6 +1068,7 @@ fn status(h: &Header, calls: &dyn Calls) {
         rxf1c: 32 << 16 | 200 << 2,
         txefc: 32 << 16 | 400 << 2,
         txbc: 20 << 24 | 12 << 16 | 500 << 2,
+        memory_words: BENCH_MEMORY_WORDS,
         ..Registers::default()
     };
     let s = State {

@@ -301,10 +301,9 @@ fn mostly_below(random: &mut Random, limit: u32) -> u32 {
     }
 }
 
-/// One history: a legal start and many calls.
-fn history(random: &mut Random, calls: u32, tally: &mut BTreeMap<&'static str, u64>) {
-    let registers = legal_registers(random);
-    let mut memory = arbitrary_memory(random, MEMORY_WORDS);
+/// One history: a start from legal registers and many calls.
+fn history(random: &mut Random, registers: Registers, calls: u32, tally: &mut BTreeMap<&'static str, u64>) {
+    let mut memory = arbitrary_memory(random, registers.memory_words as usize);
     put_filters(random, &registers, &mut memory);
     let (mut state, mut record) = arbitrary_state(random);
     start(&mut state, &mut record, registers, memory.len()).expect("legal registers are accepted");
@@ -316,6 +315,12 @@ fn history(random: &mut Random, calls: u32, tally: &mut BTreeMap<&'static str, u
         // The filters are the caller's words and may change between calls.
         if random.once_in(300) {
             put_filters(random, &registers, &mut memory);
+        }
+        // A memory of another length is not the one that was given.
+        if random.once_in(50) {
+            let length = other_length(random, r.memory_words, MEMORY_MOST + 8);
+            let lent = arbitrary_memory(random, length as usize);
+            assert_eq!(status(&state, &record, &lent), Err(20));
         }
         let before = (state, record, memory.clone());
         let output_length = if random.once_in(20) { 63 } else { 64 };
@@ -556,12 +561,17 @@ fn history(random: &mut Random, calls: u32, tally: &mut BTreeMap<&'static str, u
 fn histories_from_legal_starts() {
     let mut tally = BTreeMap::new();
     let mut random = Random::new(1);
-    // 300 starts with 1,000 calls each.
+    // 300 starts with 1,000 calls each, on memories of any length.
     for _ in 0..300 {
-        history(&mut random, 1000, &mut tally);
+        let registers = legal_registers(&mut random);
+        history(&mut random, registers, 1000, &mut tally);
     }
-    // One history of 100,000 calls without a new start.
-    history(&mut Random::new(7), 100_000, &mut tally);
+    // Histories of 100,000 calls without a new start.
+    for memory_words in [BENCH_MEMORY_WORDS, MEMORY_MOST] {
+        let mut random = Random::new(7);
+        let registers = legal_registers_for(&mut random, memory_words);
+        history(&mut random, registers, 100_000, &mut tally);
+    }
     println!("{tally:?}");
     // Everything that can happen has happened, and more than once.
     for name in [
@@ -596,21 +606,33 @@ fn histories_from_legal_starts() {
 fn generators_keep_their_word() {
     let mut random = Random::new(2);
     let mut numbers = BTreeMap::new();
+    let mut lengths = BTreeMap::new();
     for _ in 0..20_000 {
         let legal = legal_registers(&mut random);
-        assert!(layout_verdict(&legal, MEMORY_WORDS).is_ok(), "{legal:x?}");
+        assert!(layout_verdict(&legal, legal.memory_words as usize).is_ok(), "{legal:x?}");
+        *lengths.entry(legal.memory_words).or_insert(0u32) += 1;
         let near = nearly_legal_registers(&mut random);
-        let number = layout_verdict(&near, MEMORY_WORDS).err().map_or(0, |no| no.number);
+        let number = layout_verdict(&near, near.memory_words as usize).err().map_or(0, |no| no.number);
         *numbers.entry(number).or_insert(0u32) += 1;
         let (frame, data) = well_formed_frame(&mut random);
         assert!(!malformed(&frame, &data));
         let (state, record) = fit_state(&mut random);
-        assert!(!unfit(&state, &record, MEMORY_WORDS), "{state:?}");
+        assert!(!unfit(&state, &record, state.registers.memory_words as usize), "{state:?}");
+
+        let wrong = Registers { memory_words: wrong_length(&mut random), ..legal };
+        assert_eq!(layout_verdict(&wrong, wrong.memory_words as usize).map_err(|no| no.number), Err(10));
+        let other = other_length(&mut random, legal.memory_words, MEMORY_MOST + 8);
+        assert_eq!(layout_verdict(&legal, other as usize).map_err(|no| no.number), Err(10));
     }
     println!("{numbers:?}");
-    for number in [0, 11, 12, 13, 14, 15] {
+    for number in [0, 10, 11, 12, 13, 14, 15] {
         assert!(numbers.get(&number).copied().unwrap_or(0) > 20, "{number} hardly happened");
     }
+    for length in [1, 2559, 2560, 2561, 4351, 4352] {
+        assert!(lengths.get(&length).copied().unwrap_or(0) > 20, "{length} words were hardly given");
+    }
+    assert!(lengths.range(2..=100).count() > 90, "small lengths were hardly given");
+    assert!(lengths.len() > 1000, "{} lengths were given", lengths.len());
 }
 
 #[test]
@@ -649,7 +671,7 @@ fn overlaps_found_by_marking_words() {
     let mut seen = 0;
     for _ in 0..3_000 {
         let registers = nearly_legal_registers(&mut random);
-        match layout_verdict(&registers, MEMORY_WORDS) {
+        match layout_verdict(&registers, registers.memory_words as usize) {
             Ok(all) => assert_eq!(marked_pairs(&all), None),
             Err(no) if no.number == 15 => {
                 assert_eq!(marked_pairs(&sections(&registers)), Some((no.first, no.second)));
@@ -676,21 +698,29 @@ fn rank_is_the_order_on_the_bus() {
 fn hostile_inputs() {
     let mut random = Random::new(6);
     let mut answers: BTreeMap<(u32, u32), u64> = BTreeMap::new();
-    let mut memory = arbitrary_memory(&mut random, MEMORY_WORDS + 16);
+    let room = MEMORY_MOST + 16;
+    let mut memory = arbitrary_memory(&mut random, room as usize);
     for round in 0..400_000u32 {
         let (mut state, mut record) = match random.below(4) {
             0 => arbitrary_state(&mut random),
             1 => nearly_fit_state(&mut random),
             _ => fit_state(&mut random),
         };
-        let length =
-            if random.once_in(30) { random.below(MEMORY_WORDS as u32 + 16) as usize } else { MEMORY_WORDS };
+        let call = 1 + round % 15;
+        // What a start is given; the other calls go by what the state has.
+        let registers = match random.below(3) {
+            0 => arbitrary_registers(&mut random),
+            1 => nearly_legal_registers(&mut random),
+            _ => legal_registers(&mut random),
+        };
+        let given = if call == 1 { registers.memory_words } else { state.registers.memory_words };
+        let lent = lent_length(&mut random, given, room) as usize;
         if random.once_in(50) {
-            let at = random.below(MEMORY_WORDS as u32) as usize;
+            let at = random.below(MEMORY_MOST) as usize;
             memory[at..].iter_mut().take(200).for_each(|word| *word = random.odd_word());
         }
         let before = (state, record, memory.clone());
-        let (s, c, m) = (&mut state, &mut record, &mut memory[..length]);
+        let (s, c, m) = (&mut state, &mut record, &mut memory[..lent]);
         let (frame, data) =
             if random.coin() { arbitrary_frame(&mut random) } else { well_formed_frame(&mut random) };
         let output_length = if random.once_in(10) { random.below(70) as usize } else { 64 };
@@ -704,17 +734,9 @@ fn hostile_inputs() {
         let fifo = if random.once_in(10) { random.odd_word() } else { random.below(2) };
         let (passive, wish) = (random.coin(), random.coin());
         let (time, marker) = (random.word() as u16, random.word() as u8);
-        let call = 1 + round % 15;
         // Which parts a call may change: state, record, memory, output.
         let (answer, changes) = match call {
-            1 => {
-                let registers = match random.below(3) {
-                    0 => arbitrary_registers(&mut random),
-                    1 => nearly_legal_registers(&mut random),
-                    _ => legal_registers(&mut random),
-                };
-                (start(s, c, registers, length).map(|_| ()).map_err(|no| no.number), [true, true, false, false])
-            }
+            1 => (start(s, c, registers, lent).map(|_| ()).map_err(|no| no.number), [true, true, false, false]),
             2 => (receive(s, c, m, &frame, &data, time).map(|_| ()), [true, true, true, false]),
             3 => (read_fifo(s, c, m, fifo, number, &mut output).map(|_| ()), [false, false, false, true]),
             4 => (acknowledge_fifo(s, c, m, fifo, number), [true, false, false, false]),
@@ -747,10 +769,11 @@ fn hostile_inputs() {
         assert!(output == output_before || (accepted && changes[3]));
         // A call on an unfit state gives 20, and an accepted call leaves a fit one.
         if call > 1 {
-            assert_eq!(answer == Err(20), unfit(&before.0, &before.1, length));
+            assert_eq!(answer == Err(20), unfit(&before.0, &before.1, lent));
         }
         if accepted {
-            assert!(!unfit(&state, &record, length));
+            assert!(!unfit(&state, &record, lent));
+            assert_eq!(lent, given as usize);
         }
         *answers.entry((call, answer.err().unwrap_or(0))).or_default() += 1;
     }
@@ -784,13 +807,13 @@ fn hostile_inputs_to_the_single_rules() {
     for _ in 0..100_000 {
         let (state, record) = arbitrary_state(&mut random);
         let r = &state.registers;
-        let length = random.below(20) as usize;
-        let mut memory = arbitrary_memory(&mut random, length);
+        let lent = random.below(20) as usize;
+        let mut memory = arbitrary_memory(&mut random, lent);
         let (frame, data) = arbitrary_frame(&mut random);
         let (a, b) = (random.odd_word(), random.odd_word());
         sections(r);
-        let _ = layout_verdict(r, length);
-        unfit(&state, &record, MEMORY_WORDS);
+        let _ = layout_verdict(r, lent);
+        unfit(&state, &record, r.memory_words as usize);
         malformed(&frame, &data);
         data_length(frame.rtr, frame.fdf, a);
         standard_matches(&standard_filter(a), b);

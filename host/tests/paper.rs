@@ -79,6 +79,7 @@ fn packed(p: Plan) -> Registers {
         rx_buffers: p.rx_buffers,
         fd_on: p.fd_on,
         rate_switch_on: p.rate_switch_on,
+        memory_words: BENCH_MEMORY_WORDS,
     }
 }
 
@@ -94,13 +95,19 @@ struct Handler {
 const UNTOUCHED: u8 = 0xA5;
 
 impl Handler {
-    fn from(registers: Registers) -> Handler {
-        let mut h = Handler {
+    /// A zeroed state with a memory of so many words.
+    fn zeroed(lent: usize) -> Handler {
+        Handler {
             state: State::default(),
             record: Record::default(),
-            memory: vec![0xDEAD_BEEF; MEMORY_WORDS],
+            memory: vec![0xDEAD_BEEF; lent],
             output: vec![UNTOUCHED; 64],
-        };
+        }
+    }
+
+    /// Started, with a memory as long as is given.
+    fn from(registers: Registers) -> Handler {
+        let mut h = Handler::zeroed(registers.memory_words as usize);
         let before = h.memory.clone();
         start(&mut h.state, &mut h.record, registers, h.memory.len()).expect("the layout is legal");
         assert_eq!(h.memory, before);
@@ -273,6 +280,7 @@ fn case_a() -> Registers {
         rx_buffers: 5,
         fd_on: false,
         rate_switch_on: false,
+        memory_words: 2560,
     }
 }
 
@@ -482,31 +490,49 @@ fn overwriting_does_not_set_lost() {
 // Start
 // ------------------------------------------------------------------------------------------------------
 
+/// On a memory as long as is given.
 fn verdict(registers: Registers) -> (u32, u32, u32) {
-    match layout_verdict(&registers, MEMORY_WORDS) {
+    verdict_on(registers, registers.memory_words as usize)
+}
+
+fn verdict_on(registers: Registers, lent: usize) -> (u32, u32, u32) {
+    match layout_verdict(&registers, lent) {
         Ok(_) => (0, 7, 7),
         Err(no) => (no.number, no.first, no.second),
     }
 }
 
+/// The values after a reset, with the bench cases' memory: a reset itself gives no length.
+fn reset() -> Registers {
+    Registers { memory_words: BENCH_MEMORY_WORDS, ..Registers::reset() }
+}
+
 #[test]
 fn reset_registers_lose_every_frame() {
-    let mut h = Handler::from(Registers::reset());
-    assert_eq!(layout_verdict(&Registers::reset(), 2560), Ok([Section::default(); 7]));
+    let mut h = Handler::from(reset());
+    assert_eq!(layout_verdict(&reset(), 2560), Ok([Section::default(); 7]));
     for frame in [classic(0, 0), classic(0x7FF, 0), extended(5, 0), remote(3)] {
         assert_eq!(h.receive(frame, &[]), lost(0, None));
     }
     assert_eq!(h.flags(), 0x8);
-    assert_eq!(h.state, State { registers: Registers::reset(), ..State::default() });
+    assert_eq!(h.state, State { registers: reset(), ..State::default() });
+    // Without a length no memory will do.
+    assert_eq!(Registers::reset().memory_words, 0);
+    for lent in [0, 1, 2560, 4352] {
+        assert_eq!(verdict_on(Registers::reset(), lent), (10, 7, 7));
+    }
 }
 
 #[test]
 fn start_numbers() {
     // 10, below everything else.
     let bad = Registers { gfc: u32::MAX, ..case_a() };
-    for length in [0, 1, 2559, 2561, 10_240] {
-        let no = layout_verdict(&bad, length).unwrap_err();
-        assert_eq!((no.number, no.first, no.second), (10, 7, 7));
+    for lent in [0, 1, 2559, 2561, 10_240] {
+        assert_eq!(verdict_on(bad, lent), (10, 7, 7));
+    }
+    for memory_words in [0, 4353, 10_240, u32::MAX] {
+        assert_eq!(verdict(Registers { memory_words, ..bad }), (10, 7, 7));
+        assert_eq!(verdict_on(Registers { memory_words, ..bad }, 2560), (10, 7, 7));
     }
     // 11: each bit of each register by itself.
     let legal: [u32; 11] = [
@@ -524,7 +550,7 @@ fn start_numbers() {
     ];
     for (number, mask) in legal.into_iter().enumerate() {
         for at in 0..32 {
-            let mut r = Registers::default();
+            let mut r = Registers { memory_words: 2560, ..Registers::default() };
             let word = [
                 &mut r.sidfc,
                 &mut r.xidfc,
@@ -546,12 +572,12 @@ fn start_numbers() {
             assert_eq!(verdict(r).0 != 11, named, "register {number}, bit {at}");
         }
     }
-    assert_eq!(verdict(Registers { xidfc: 1 << 23, ..Registers::reset() }), (11, 7, 7));
+    assert_eq!(verdict(Registers { xidfc: 1 << 23, ..reset() }), (11, 7, 7));
     // 11 comes before 12, and an absent section's unnamed bits count.
-    assert_eq!(verdict(Registers { txefc: 1, rx_buffers: 99, ..Registers::reset() }), (11, 7, 7));
-    assert_eq!(verdict(Registers { rxbc: 2, ..Registers::reset() }), (11, 7, 7));
+    assert_eq!(verdict(Registers { txefc: 1, rx_buffers: 99, ..reset() }), (11, 7, 7));
+    assert_eq!(verdict(Registers { rxbc: 2, ..reset() }), (11, 7, 7));
     // 12: each section, the first one named.
-    let r = Registers::reset();
+    let r = reset();
     assert_eq!(verdict(Registers { sidfc: 129 << 16, ..r }), (12, 0, 7));
     assert_eq!(verdict(Registers { xidfc: 65 << 16, ..r }), (12, 1, 7));
     assert_eq!(verdict(Registers { rxf0c: 65 << 16, ..r }), (12, 2, 7));
@@ -595,12 +621,155 @@ fn absent_sections_have_no_place() {
         rxbc: 0xFFFC,
         txefc: 0xFFFC,
         txbc: 0xFFFC,
-        ..Registers::reset()
+        ..reset()
     };
     assert_eq!(layout_verdict(&r, 2560), Ok([Section::default(); 7]));
     // They overlap nothing either.
-    let r = Registers { sidfc: 128 << 16, xidfc: 5 << 2, ..Registers::reset() };
+    let r = Registers { sidfc: 128 << 16, xidfc: 5 << 2, ..reset() };
     assert!(layout_verdict(&r, 2560).is_ok());
+}
+
+// ------------------------------------------------------------------------------------------------------
+// The memory's length
+// ------------------------------------------------------------------------------------------------------
+
+/// Case A with a memory of this length.
+fn case_a_for(memory_words: u32) -> Registers {
+    Registers { memory_words, ..case_a() }
+}
+
+#[test]
+fn given_0_lent_0() {
+    assert_eq!(verdict_on(Registers::default(), 0), (10, 7, 7));
+}
+
+#[test]
+fn given_1_lent_1() {
+    for xidam in [0, 1, 0x1FFF_FFFF] {
+        let r = Registers { xidam, memory_words: 1, ..Registers::default() };
+        assert_eq!(layout_verdict(&r, 1), Ok([Section::default(); 7]));
+    }
+    // One filter fills it; nothing else has one word.
+    let r = Registers { memory_words: 1, ..reset() };
+    assert_eq!(verdict(Registers { sidfc: 1 << 16, ..r }), (0, 7, 7));
+    assert_eq!(verdict(Registers { sidfc: 1 << 16 | 1 << 2, ..r }), (14, 0, 7));
+    assert_eq!(verdict(Registers { sidfc: 2 << 16, ..r }), (14, 0, 7));
+    assert_eq!(verdict(Registers { xidfc: 1 << 16, ..r }), (14, 1, 7));
+}
+
+#[test]
+fn given_4352_tx_ends_at_the_last_word() {
+    let r = Registers { txbc: 0x0602_41C0, ..case_a_for(4352) };
+    let layout = layout_verdict(&r, 4352).expect("it ends at word 4,352");
+    assert_eq!(layout[TX_BUFFERS], Section { start: 4208, words: 144 });
+    // What is asked of its last buffer goes to the last words, and comes from there.
+    let mut h = Handler::from(Registers { txbc: 0x0008_41C0, fd_on: true, ..r });
+    h.dedicated(7, fd(0x123, 15), &BYTES, 9, false).unwrap();
+    assert_eq!(h.memory[4351], 0x403F_3E3D);
+    assert_eq!(h.memory[4352 - 18], 0x123 << 18);
+    assert_eq!(h.memory[4351 - 18], 0xDEAD_BEEF);
+    assert_eq!(h.choice(false).unwrap().unwrap().bytes, 64);
+    assert_eq!(h.output, BYTES);
+}
+
+#[test]
+fn given_4352_tx_ends_one_word_past() {
+    assert_eq!(verdict(Registers { txbc: 0x0602_41C4, ..case_a_for(4352) }), (14, 6, 7));
+}
+
+#[test]
+fn given_4353_lent_4353() {
+    assert_eq!(verdict_on(case_a_for(4353), 4353), (10, 7, 7));
+}
+
+#[test]
+fn given_2560_lent_4352() {
+    assert_eq!(verdict_on(case_a(), 4352), (10, 7, 7));
+    assert_eq!(verdict_on(case_a_for(4352), 2560), (10, 7, 7));
+}
+
+#[test]
+fn given_4352_what_2560_refuses() {
+    let r = Registers { txbc: 0x0602_25C4, ..case_a() };
+    assert_eq!(verdict(r), (14, 6, 7));
+    assert_eq!(verdict(Registers { memory_words: 4352, ..r }), (0, 7, 7));
+}
+
+#[test]
+fn given_2561_a_bit_without_a_name() {
+    assert_eq!(verdict_on(Registers { gfc: 0x40, ..case_a_for(2561) }, 2561), (11, 7, 7));
+}
+
+#[test]
+fn started_with_2560_lent_2559() {
+    let mut h = Handler::from(case_a());
+    assert!(h.status().is_ok());
+    h.memory.truncate(2559);
+    assert_eq!(h.status(), Err(20));
+    all_calls_give_20(&mut h);
+    // The same memory again, and the state is fit as before.
+    h.memory.push(0);
+    assert!(h.status().is_ok());
+    h.memory.push(0);
+    all_calls_give_20(&mut h);
+}
+
+#[test]
+fn state_says_4353_lent_4353() {
+    let mut h = Handler::from(case_a());
+    h.state.registers.memory_words = 4353;
+    h.memory = vec![0; 4353];
+    assert_eq!(h.status(), Err(20));
+    all_calls_give_20(&mut h);
+}
+
+#[test]
+fn every_length_and_no_other() {
+    for memory_words in 0..5000 {
+        let refused = memory_words == 0 || memory_words > MEMORY_MOST;
+        let number = verdict(Registers { memory_words, ..reset() }).0;
+        assert_eq!(number, if refused { 10 } else { 0 }, "{memory_words}");
+        for lent in [memory_words + 1, memory_words.wrapping_sub(1), 5000] {
+            assert_eq!(verdict_on(Registers { memory_words, ..reset() }, lent as usize), (10, 7, 7));
+        }
+        // 14 by the given length: a filter in its last word, and in the word behind that.
+        if !refused {
+            let at = |start: u32| Registers { sidfc: 1 << 16 | start << 2, memory_words, ..reset() };
+            assert_eq!(verdict(at(memory_words - 1)), (0, 7, 7));
+            assert_eq!(verdict(at(memory_words)), (14, 0, 7));
+        }
+    }
+    // Lengths whose low 16 bits alone would be right.
+    for memory_words in [0x1_0000, 0x1_0A00, 0x8000_0A00, 0xFFFF_0001] {
+        assert_eq!(verdict(Registers { memory_words, ..reset() }), (10, 7, 7));
+        assert_eq!(verdict_on(Registers { memory_words, ..reset() }, memory_words as usize & 0xFFFF), (10, 7, 7));
+    }
+}
+
+#[test]
+fn unfit_reads_the_length_in_the_state() {
+    // The layout ends at word 410: a longer memory does, where state and memory say the same, and a shorter doesn't.
+    let h = Handler::from(case_a());
+    for (length, fits) in [(409, false), (410, true), (2559, true), (4352, true), (4353, false), (0, false)] {
+        let mut h = h.clone();
+        h.state.registers.memory_words = length;
+        all_calls_give_20(&mut h);
+        h.memory = vec![0; length as usize];
+        assert_eq!(h.status().is_ok(), fits, "{length}");
+    }
+}
+
+#[test]
+fn a_start_may_give_another_length() {
+    let mut h = Handler::from(case_a());
+    h.memory.resize(4352, 0);
+    // Refused, it leaves the old length; accepted, it keeps the new one.
+    let refused = start(&mut h.state, &mut h.record, case_a(), 4352).unwrap_err();
+    assert_eq!((refused.number, h.state.registers.memory_words), (10, 2560));
+    assert_eq!(h.status(), Err(20));
+    start(&mut h.state, &mut h.record, case_a_for(4352), 4352).unwrap();
+    assert_eq!(h.state, State { registers: case_a_for(4352), ..State::default() });
+    assert!(h.status().is_ok());
 }
 
 #[test]
@@ -1307,14 +1476,40 @@ fn unfit_states() {
 }
 
 #[test]
-fn a_zeroed_state_is_fit() {
-    let mut h = Handler::from(Registers::reset());
-    h.state = State::default();
+fn a_zeroed_state_is_unfit() {
     let empty = RingStatus { fill: 0, oldest: 0, put: 0 };
-    assert_eq!(h.status(), Ok(Status { fifo0: empty, fifo1: empty, events: empty, shared: empty, pending: 0 }));
-    // All ones as GFC makes a state that never started.
-    h.state.registers.gfc = 0xFFFF_FFFF;
-    all_calls_give_20(&mut h);
+    let nothing = Status { fifo0: empty, fifo1: empty, events: empty, shared: empty, pending: 0 };
+    for memory_words in [1, 2560, 4352] {
+        // Its length is 0, which no start accepts, with any memory and with none.
+        let mut h = Handler::zeroed(memory_words as usize);
+        all_calls_give_20(&mut h);
+        all_calls_give_20(&mut Handler::zeroed(0));
+        // The length alone is missing.
+        h.state.registers.memory_words = memory_words;
+        assert_eq!(h.status(), Ok(nothing));
+        // A start on it is judged by itself.
+        let mut h = Handler::zeroed(memory_words as usize);
+        let lent = h.memory.len();
+        let refused = start(&mut h.state, &mut h.record, Registers::default(), lent).unwrap_err();
+        assert_eq!(refused, StartRefusal { number: 10, first: 7, second: 7 });
+        all_calls_give_20(&mut h);
+        let registers = Registers { memory_words, ..Registers::default() };
+        assert_eq!(start(&mut h.state, &mut h.record, registers, lent), Ok([Section::default(); 7]));
+        assert_eq!(h.status(), Ok(nothing));
+    }
+}
+
+#[test]
+fn a_state_that_never_started_is_unfit() {
+    let never = State::never_started();
+    assert_eq!((never.registers.gfc, never.registers.memory_words), (0xFFFF_FFFF, 0));
+    for lent in [0, 1, 2560, 4352] {
+        let mut h = Handler { state: never, ..Handler::zeroed(lent) };
+        all_calls_give_20(&mut h);
+        // Either alone would do: its GFC, its length.
+        h.state.registers.memory_words = lent as u32;
+        all_calls_give_20(&mut h);
+    }
 }
 
 #[test]

@@ -3,7 +3,7 @@
 
 use cuongphemi_host::boundary::*;
 use cuongphemi_host::library::Library;
-use cuongphemi_host::model::{data_length, MEMORY_WORDS};
+use cuongphemi_host::model::{data_length, BENCH_MEMORY_WORDS, MEMORY_MOST};
 use std::fmt::Write;
 use std::path::PathBuf;
 
@@ -13,19 +13,26 @@ const UNWRITTEN: u8 = 0xEE;
 type Answer = [u32; ANSWER_WORDS];
 type Frame = [u32; FRAME_WORDS];
 
+/// The memory's words, of which a case lends the first ones: enough for one length over the most.
+const ROOM: usize = MEMORY_MOST as usize + 1;
+
 /// What a case runs on. Every case begins with a memory of zeros and without a start.
 struct Bench<'a> {
     calls: &'a dyn Calls,
     state: [u32; STATE_WORDS],
     status: [u32; STATUS_WORDS],
-    memory: [u32; MEMORY_WORDS],
+    memory: [u32; ROOM],
+    /// The length that a start is given, and how many words are lent.
+    given: u32,
+    lent: usize,
 }
 
 impl<'a> Bench<'a> {
     fn unstarted(calls: &'a dyn Calls) -> Bench<'a> {
         let mut state = [0; STATE_WORDS];
         assert_eq!(calls.never_started(&mut state), 0);
-        Bench { calls, state, status: [0; STATUS_WORDS], memory: [0; MEMORY_WORDS] }
+        let (given, lent) = (BENCH_MEMORY_WORDS, BENCH_MEMORY_WORDS as usize);
+        Bench { calls, state, status: [0; STATUS_WORDS], memory: [0; ROOM], given, lent }
     }
 
     /// One line of a case: a word and its hexadecimal numbers. Answers what is printed after the arrow.
@@ -34,11 +41,13 @@ impl<'a> Bench<'a> {
         let word = parts.next().unwrap_or_default();
         let number = |digits| u32::from_str_radix(digits, 16).unwrap_or_else(|wrong| panic!("{line}: {wrong}"));
         let numbers: Vec<u32> = parts.map(number).collect();
-        let Bench { calls, state, status, memory } = self;
+        let Bench { calls, state, status, memory, given, lent } = self;
+        let memory = &mut memory[..*lent];
         let answer = &mut [0; ANSWER_WORDS];
         match (word, &numbers[..]) {
             ("start", registers) => {
-                let number = calls.start(state, status, memory, registers, answer);
+                let registers = [registers, &[*given]].concat();
+                let number = calls.start(state, status, memory, &registers, answer);
                 start_text(number, answer)
             }
             ("receive", &[form, id, dlc, time, first]) => {
@@ -102,9 +111,18 @@ impl<'a> Bench<'a> {
                 let number = calls.status(state, status, memory, answer);
                 told(number, || status_text(answer))
             }
-            // Beside the calls: words and record set by hand, four words, and what no status tells.
+            // Beside the calls: lengths from here on, words and record set by hand, four words, and what no status
+            // tells.
+            ("memory", &[words_given, words_lent]) => {
+                (*given, *lent) = (words_given, words_lent as usize);
+                String::new()
+            }
             ("word", &[at, word]) => {
                 memory[at as usize] = word;
+                String::new()
+            }
+            ("state", &[at, word]) => {
+                state[at as usize] = word;
                 String::new()
             }
             ("record", &[flags, priority]) => {
@@ -213,7 +231,7 @@ fn status_text(answer: &Answer) -> String {
     format!("{rings} pending {}", answer[12])
 }
 
-/// The record, the bits of the buffers that no status tells, and a checksum of the memory.
+/// The record, the bits of the buffers that no status tells, and a checksum of the lent memory.
 fn look_text(state: &[u32], status: &[u32], memory: &[u32]) -> String {
     let state = unpack_state(state).expect("FD on and rate switch on say yes or no");
     let checksum = memory.iter().fold(0, |sum, word| (sum * 31 + word % 65521) % 65521);

@@ -101,6 +101,11 @@ static_assert(CUONGPHEMI_DATA_BYTES(0, 1, 16) == CUONGPHEMI_DATA_BYTES_MOST && C
 static_assert(CUONGPHEMI_BUFFER_BIT(0) == 1 && CUONGPHEMI_BUFFER_BIT(31) == 0x80000000
               && CUONGPHEMI_BUFFER_BIT(32) == 1 && CUONGPHEMI_BUFFER_BIT(63) == 0x80000000, "bits of buffers");
 
+/* the registers' last word; the state's first and last of its own */
+static_assert(CUONGPHEMI_REGISTER_MEMORY_WORDS == CUONGPHEMI_REGISTER_WORDS - 1, "registers");
+static_assert(CUONGPHEMI_STATE_FIFO0_OLDEST == CUONGPHEMI_REGISTER_WORDS
+              && CUONGPHEMI_STATE_CANCELLED == CUONGPHEMI_STATE_WORDS - 1, "state");
+
 /* flags 0 to 15 and 19; the answers' last words */
 static_assert(CUONGPHEMI_FLAGS_ALL == (0xFFFF | CUONGPHEMI_FLAG_RX_BUFFER), "flags");
 static_assert(CUONGPHEMI_START_WORDS(CUONGPHEMI_SECTION_TX_BUFFERS) == CUONGPHEMI_START_ANSWER_WORDS - 1, "start");

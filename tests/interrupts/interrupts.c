@@ -31,6 +31,7 @@
 #include "cuongphemi.h"
 
 #define INTERRUPTS 20000
+#define BOX_MEMORY_WORDS 2560
 
 /* The flag of the interrupt. No call on this box raises it: the box has no Rx buffers. */
 #define ITS_FLAG CUONGPHEMI_FLAG_RX_BUFFER
@@ -59,11 +60,11 @@ static union {
     uint32_t words[CUONGPHEMI_RECORD_WORDS];
     struct cuongphemi_record record;
 } status;
-static uint32_t memory[CUONGPHEMI_MEMORY_WORDS];
+static uint32_t memory[BOX_MEMORY_WORDS];
 static uint32_t answer[CUONGPHEMI_ANSWER_WORDS];
 static uint8_t output[CUONGPHEMI_OUTPUT_BYTES];
 
-#define BOX state, CUONGPHEMI_STATE_WORDS, status.words, CUONGPHEMI_RECORD_WORDS, memory, CUONGPHEMI_MEMORY_WORDS
+#define BOX state, CUONGPHEMI_STATE_WORDS, status.words, CUONGPHEMI_RECORD_WORDS, memory, BOX_MEMORY_WORDS
 #define ANSWER answer, CUONGPHEMI_ANSWER_WORDS
 #define OUTPUT output, CUONGPHEMI_OUTPUT_BYTES
 
@@ -145,6 +146,7 @@ static void start(void)
         [2] = UINT32_C(4) << 16 | 16 << 2,
         [6] = UINT32_C(4) << 16 | 100 << 2,
         [7] = UINT32_C(1) << 16 | 200 << 2,
+        [14] = BOX_MEMORY_WORDS,
     };
     memset(own, 0, sizeof own);
     OWNING_CALL(ELSE, cuongphemi_start(BOX, registers, CUONGPHEMI_REGISTER_WORDS, ANSWER));

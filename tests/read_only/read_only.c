@@ -19,6 +19,10 @@
 
 #include "cuongphemi.h"
 
+/* The memory's words of the box below, and of the longest memory that is lent: one over the most. */
+#define BOX_MEMORY_WORDS 2560
+#define LENT_MOST (CUONGPHEMI_MEMORY_MOST + 1)
+
 /* ---- the buffers on their pages. The answer lies across two: its first two words, and the others. */
 
 enum page { STATE, RECORD, MEMORY, REGISTERS, FRAME, DATA, OUTPUT, ANSWER_FRONT, ANSWER_REST, PAGES };
@@ -75,7 +79,7 @@ static void fault(int number, siginfo_t *information, void *context)
 static void lay_out_pages(void)
 {
     size_t size = (size_t)sysconf(_SC_PAGESIZE);
-    size_t memory_bytes = (CUONGPHEMI_MEMORY_WORDS * 4 + size) / size * size;
+    size_t memory_bytes = (LENT_MOST * 4 + size) / size * size;
     uint8_t *at = mmap(NULL, memory_bytes + PAGES * size, PROT_READ | PROT_WRITE, MAP_PRIVATE | MAP_ANONYMOUS, -1, 0);
     if (at == MAP_FAILED) {
         perror("mmap");
@@ -176,7 +180,7 @@ static void make_box(void)
     leave_writable(EVERYTHING);
     state_words = CUONGPHEMI_STATE_WORDS;
     record_words = CUONGPHEMI_RECORD_WORDS;
-    memory_words = CUONGPHEMI_MEMORY_WORDS;
+    memory_words = BOX_MEMORY_WORDS;
     register_words = CUONGPHEMI_REGISTER_WORDS;
     frame_words = CUONGPHEMI_FRAME_WORDS;
     answer_words = CUONGPHEMI_ANSWER_WORDS;
@@ -184,7 +188,10 @@ static void make_box(void)
     data_bytes = 8;
     fifo = place = rx_buffer = wish = passive = 0;
 
-    /* One filter to Rx buffer 0. Two of each: FIFO 0, FIFO 1, Rx buffers, events, dedicated, shared as a FIFO. */
+    /*
+     * One filter to Rx buffer 0. Two of each: FIFO 0, FIFO 1, Rx buffers, events, dedicated, shared as a FIFO. Its
+     * last section ends with word 59.
+     */
     static const uint32_t given[CUONGPHEMI_REGISTER_WORDS] = {
         [0] = UINT32_C(1) << 16,
         [2] = UINT32_C(2) << 16 | 16 << 2,
@@ -194,6 +201,7 @@ static void make_box(void)
         [7] = UINT32_C(2) << 24 | UINT32_C(2) << 16 | 44 << 2,
         [11] = 2,
         [12] = 1,
+        [14] = BOX_MEMORY_WORDS,
     };
     memcpy(registers, given, sizeof given);
     memset(state, 0, 4 * state_words);
@@ -278,6 +286,12 @@ static void accepted(void)
     TRY(0, THE(START), cuongphemi_never_started(state, state_words));
     TRY(0, THE(START), state[12] = state[13] = 2);
     TRY(0, THE(START), memset(state, 0xFF, 4 * state_words), memset(record, 0xFF, 4 * record_words));
+    TRY(0, THE(START), memset(state, 0, 4 * state_words));
+    /* Other lengths: the shortest for this box, and the longest of all; by the state's word where it isn't a start. */
+    TRY(0, THE(START), registers[14] = memory_words = 60);
+    TRY(0, THE(START), registers[14] = memory_words = CUONGPHEMI_MEMORY_MOST);
+    TRY(0, ALL & ~THE(START), state[14] = memory_words = 60);
+    TRY(0, ALL & ~THE(START), state[14] = memory_words = CUONGPHEMI_MEMORY_MOST);
     /* Nothing is pending, and nothing is written to the output. */
     TRY(0, THE(ASK_CHOICE), must(start()));
 }
@@ -310,28 +324,44 @@ static void the_boundary_refuses(void)
 
 static void a_start_is_refused(void)
 {
+    /* A length of 0; one over the most, with a memory as long, and far over it; another than is lent. */
+    TRY(10, ALL, registers[14] = 0);
+    TRY(10, ALL, registers[14] = memory_words = 0);
+    TRY(10, ALL, registers[14] = memory_words = LENT_MOST);
+    TRY(10, ALL, registers[14] = UINT32_MAX);
+    TRY(10, ALL, registers[14]--);
+    TRY(10, ALL, registers[14]++);
     TRY(10, ALL, memory_words--);
     TRY(10, ALL, memory_words++);
     TRY(11, ALL, registers[9] = 64);
-    /* 129 filters; 20 + 20 Tx buffers; Tx buffers at the last word; FIFO 1 where FIFO 0 is. */
+    /* 129 filters; 20 + 20 Tx buffers; Tx buffers at the last word, one past it; FIFO 1 where FIFO 0 is. */
     TRY(12, ALL, registers[0] = UINT32_C(129) << 16);
     TRY(13, ALL, registers[7] = UINT32_C(20) << 24 | UINT32_C(20) << 16);
     TRY(14, ALL, registers[7] = UINT32_C(1) << 16 | 2559 << 2);
+    TRY(14, ALL, registers[14] = memory_words = 59);
     TRY(15, ALL, registers[3] = registers[2]);
 }
 
 static void a_box_is_unfit(void)
 {
     TRY(20, ALL, cuongphemi_never_started(state, state_words));
+    TRY(20, ALL, memset(state, 0, 4 * state_words));
+    TRY(20, ALL, memset(state, 0, 4 * state_words), memory_words = 0);
+    /* Another length is lent than the start was given, or the state's own is wrong. */
     TRY(20, ALL, memory_words--);
     TRY(20, ALL, memory_words++);
+    TRY(20, ALL, memory_words = 0);
+    TRY(20, ALL, state[14]--);
+    TRY(20, ALL, state[14] = memory_words = 0);
+    TRY(20, ALL, state[14] = memory_words = 59);
+    TRY(20, ALL, state[14] = memory_words = LENT_MOST);
     /* A register; a place and a fill past FIFO 0; bits past their counts; a shared one that isn't held; a flag. */
     TRY(20, ALL, state[9] = 64);
-    TRY(20, ALL, state[14] = 2);
-    TRY(20, ALL, state[15] = 3);
-    TRY(20, ALL, state[22] = 4);
-    TRY(20, ALL, state[24] |= UINT32_C(1) << 31);
-    TRY(20, ALL, state[24] |= 8);
+    TRY(20, ALL, state[15] = 2);
+    TRY(20, ALL, state[16] = 3);
+    TRY(20, ALL, state[23] = 4);
+    TRY(20, ALL, state[25] |= UINT32_C(1) << 31);
+    TRY(20, ALL, state[25] |= 8);
     TRY(20, ALL, record[0] = UINT32_C(1) << 31);
 }
 

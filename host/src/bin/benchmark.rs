@@ -64,9 +64,10 @@ fn started() -> Words {
         txesc: 7,
         fd_on: true,
         rate_switch_on: true,
+        memory_words: BENCH_MEMORY_WORDS,
         ..Registers::reset()
     };
-    let mut words = Words { lent: Lent::new(), inputs: Inputs::new() };
+    let mut words = Words { lent: Lent::new(BENCH_MEMORY_WORDS as usize), inputs: Inputs::new() };
     for (id, filter) in (0..128).zip(words.lent.memory.lent_mut()) {
         // Type 1, action 1: one of two identifiers, here the same, to FIFO 0.
         *filter = 1 << 30 | 1 << 27 | id << 16 | id;
@@ -130,11 +131,12 @@ impl Words {
 
     /// The oldest element is read and acknowledged. An empty FIFO is said to be full again, in the state's words.
     fn read_and_acknowledge(&mut self, calls: &dyn Calls) {
+        let (oldest, fill) = (FIRST_RING, FIRST_RING + 1);
         let state = self.lent.state.lent_mut();
-        if state[15] == 0 {
-            state[15] = 64;
+        if state[fill] == 0 {
+            state[fill] = 64;
         }
-        self.inputs.place = state[14];
+        self.inputs.place = state[oldest];
         self.call(calls, Call::ReadFifo);
         self.call(calls, Call::AcknowledgeFifo);
     }
