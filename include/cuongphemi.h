@@ -559,7 +559,7 @@ uint32_t cuongphemi_never_started(uint32_t *state, size_t state_words);
 
 /*
  * Starts the box: an empty state with these registers, and a record of 0. The old state and the old record may be any
- * words; a refusal keeps them. The memory is only measured; every later call is lent one of the same length.
+ * words; a refusal keeps them. The memory is only measured; a later call that is lent another length returns 20.
  * Returns 0, 10 to 15, 100, 101 (101: the registers' words 12 and 13).
  */
 uint32_t cuongphemi_start(uint32_t *state, size_t state_words, uint32_t *record, size_t record_words,

@@ -5,9 +5,9 @@
 
 use crate::model::{self, *};
 
-pub const STATE_WORDS: usize = 28;
-pub const STATUS_WORDS: usize = 2;
 pub const REGISTER_WORDS: usize = 15;
+pub const STATE_WORDS: usize = REGISTER_WORDS + 13;
+pub const STATUS_WORDS: usize = 2;
 pub const FRAME_WORDS: usize = 7;
 pub const ANSWER_WORDS: usize = 16;
 
@@ -17,8 +17,12 @@ pub const SAYS_YES_OR_NO: [usize; 2] = [12, 13];
 /// The word of registers and of a state that gives the memory's length.
 pub const LENGTH_WORD: usize = 14;
 
-/// The word of a state where the four rings begin, each with its oldest place and its fill.
-pub const FIRST_RING: usize = 15;
+/// The words of a state after the registers: the four rings, each with its oldest place and its fill, then the bits.
+pub const FIRST_RING: usize = REGISTER_WORDS;
+pub const NEW_DATA: usize = FIRST_RING + 8;
+pub const PENDING: usize = NEW_DATA + 2;
+pub const SENT: usize = PENDING + 1;
+pub const CANCELLED: usize = SENT + 1;
 
 pub const WRONG_LENGTH: u32 = 100;
 pub const NEITHER_YES_NOR_NO: u32 = 101;
@@ -194,10 +198,10 @@ pub fn unpack_state(w: &[u32]) -> Result<State, u32> {
         fifo1: ring(1),
         events: ring(2),
         shared: ring(3),
-        new_data: u64::from(w[23]) | u64::from(w[24]) << 32,
-        pending: w[25],
-        sent: w[26],
-        cancelled: w[27],
+        new_data: u64::from(w[NEW_DATA]) | u64::from(w[NEW_DATA + 1]) << 32,
+        pending: w[PENDING],
+        sent: w[SENT],
+        cancelled: w[CANCELLED],
     })
 }
 
@@ -208,11 +212,11 @@ pub fn pack_state(s: &State, w: &mut [u32]) {
         w[FIRST_RING + 2 * nth] = ring.oldest;
         w[FIRST_RING + 2 * nth + 1] = ring.fill;
     }
-    w[23] = s.new_data as u32;
-    w[24] = (s.new_data >> 32) as u32;
-    w[25] = s.pending;
-    w[26] = s.sent;
-    w[27] = s.cancelled;
+    w[NEW_DATA] = s.new_data as u32;
+    w[NEW_DATA + 1] = (s.new_data >> 32) as u32;
+    w[PENDING] = s.pending;
+    w[SENT] = s.sent;
+    w[CANCELLED] = s.cancelled;
 }
 
 pub fn unpack_record(w: &[u32]) -> Record {

@@ -45,7 +45,7 @@ impl<T: fmt::LowerHex + Copy + Default, const N: usize> fmt::Debug for Room<T, N
 /// What calls change.
 #[derive(Clone, PartialEq, Eq)]
 pub struct Lent {
-    pub state: Room<u32, 33>,
+    pub state: Room<u32, { STATE_WORDS + 5 }>,
     pub status: Room<u32, 4>,
     pub memory: Room<u32, 4864>,
     pub output: Room<u8, 2048>,
@@ -71,7 +71,7 @@ impl Lent {
 /// What calls are given. A call takes some of these.
 #[derive(Clone, Debug)]
 pub struct Inputs {
-    pub registers: Room<u32, 17>,
+    pub registers: Room<u32, { REGISTER_WORDS + 2 }>,
     pub frame: Room<u32, 9>,
     pub data: Room<u8, 2048>,
     pub time: u16,
@@ -717,13 +717,13 @@ impl Comparison {
                 right
             }
         };
-        self.model.state.length = wild(STATE_WORDS, 33);
+        self.model.state.length = wild(STATE_WORDS, STATE_WORDS + 5);
         self.model.status.length = wild(STATUS_WORDS, 4);
         self.model.answer.length = wild(ANSWER_WORDS, 24);
         self.library.state.length = self.model.state.length;
         self.library.status.length = self.model.status.length;
         self.library.answer.length = self.model.answer.length;
-        self.inputs.registers.length = wild(REGISTER_WORDS, 17);
+        self.inputs.registers.length = wild(REGISTER_WORDS, REGISTER_WORDS + 2);
         self.inputs.frame.length = wild(FRAME_WORDS, 9);
     }
 

@@ -146,7 +146,7 @@ static void start(void)
         [2] = UINT32_C(4) << 16 | 16 << 2,
         [6] = UINT32_C(4) << 16 | 100 << 2,
         [7] = UINT32_C(1) << 16 | 200 << 2,
-        [14] = BOX_MEMORY_WORDS,
+        [CUONGPHEMI_REGISTER_MEMORY_WORDS] = BOX_MEMORY_WORDS,
     };
     memset(own, 0, sizeof own);
     OWNING_CALL(ELSE, cuongphemi_start(BOX, registers, CUONGPHEMI_REGISTER_WORDS, ANSWER));

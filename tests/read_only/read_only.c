@@ -23,6 +23,9 @@
 #define BOX_MEMORY_WORDS 2560
 #define LENT_MOST (CUONGPHEMI_MEMORY_MOST + 1)
 
+/* The word of the registers and of the state that is the memory's length. */
+#define LENGTH CUONGPHEMI_REGISTER_MEMORY_WORDS
+
 /* ---- the buffers on their pages. The answer lies across two: its first two words, and the others. */
 
 enum page { STATE, RECORD, MEMORY, REGISTERS, FRAME, DATA, OUTPUT, ANSWER_FRONT, ANSWER_REST, PAGES };
@@ -201,7 +204,7 @@ static void make_box(void)
         [7] = UINT32_C(2) << 24 | UINT32_C(2) << 16 | 44 << 2,
         [11] = 2,
         [12] = 1,
-        [14] = BOX_MEMORY_WORDS,
+        [LENGTH] = BOX_MEMORY_WORDS,
     };
     memcpy(registers, given, sizeof given);
     memset(state, 0, 4 * state_words);
@@ -288,10 +291,10 @@ static void accepted(void)
     TRY(0, THE(START), memset(state, 0xFF, 4 * state_words), memset(record, 0xFF, 4 * record_words));
     TRY(0, THE(START), memset(state, 0, 4 * state_words));
     /* Other lengths: the shortest for this box, and the longest of all; by the state's word where it isn't a start. */
-    TRY(0, THE(START), registers[14] = memory_words = 60);
-    TRY(0, THE(START), registers[14] = memory_words = CUONGPHEMI_MEMORY_MOST);
-    TRY(0, ALL & ~THE(START), state[14] = memory_words = 60);
-    TRY(0, ALL & ~THE(START), state[14] = memory_words = CUONGPHEMI_MEMORY_MOST);
+    TRY(0, THE(START), registers[LENGTH] = memory_words = 60);
+    TRY(0, THE(START), registers[LENGTH] = memory_words = CUONGPHEMI_MEMORY_MOST);
+    TRY(0, ALL & ~THE(START), state[LENGTH] = memory_words = 60);
+    TRY(0, ALL & ~THE(START), state[LENGTH] = memory_words = CUONGPHEMI_MEMORY_MOST);
     /* Nothing is pending, and nothing is written to the output. */
     TRY(0, THE(ASK_CHOICE), must(start()));
 }
@@ -325,20 +328,20 @@ static void the_boundary_refuses(void)
 static void a_start_is_refused(void)
 {
     /* A length of 0; one over the most, with a memory as long, and far over it; another than is lent. */
-    TRY(10, ALL, registers[14] = 0);
-    TRY(10, ALL, registers[14] = memory_words = 0);
-    TRY(10, ALL, registers[14] = memory_words = LENT_MOST);
-    TRY(10, ALL, registers[14] = UINT32_MAX);
-    TRY(10, ALL, registers[14]--);
-    TRY(10, ALL, registers[14]++);
+    TRY(10, ALL, registers[LENGTH] = 0);
+    TRY(10, ALL, registers[LENGTH] = memory_words = 0);
+    TRY(10, ALL, registers[LENGTH] = memory_words = LENT_MOST);
+    TRY(10, ALL, registers[LENGTH] = UINT32_MAX);
+    TRY(10, ALL, registers[LENGTH]--);
+    TRY(10, ALL, registers[LENGTH]++);
     TRY(10, ALL, memory_words--);
     TRY(10, ALL, memory_words++);
     TRY(11, ALL, registers[9] = 64);
-    /* 129 filters; 20 + 20 Tx buffers; Tx buffers at the last word, one past it; FIFO 1 where FIFO 0 is. */
+    /* 129 filters; 20 + 20 Tx buffers; Tx buffers from the last word on, a memory one word short; FIFO 1 on FIFO 0. */
     TRY(12, ALL, registers[0] = UINT32_C(129) << 16);
     TRY(13, ALL, registers[7] = UINT32_C(20) << 24 | UINT32_C(20) << 16);
-    TRY(14, ALL, registers[7] = UINT32_C(1) << 16 | 2559 << 2);
-    TRY(14, ALL, registers[14] = memory_words = 59);
+    TRY(14, ALL, registers[7] = UINT32_C(1) << 16 | (BOX_MEMORY_WORDS - 1) << 2);
+    TRY(14, ALL, registers[LENGTH] = memory_words = 59);
     TRY(15, ALL, registers[3] = registers[2]);
 }
 
@@ -351,17 +354,17 @@ static void a_box_is_unfit(void)
     TRY(20, ALL, memory_words--);
     TRY(20, ALL, memory_words++);
     TRY(20, ALL, memory_words = 0);
-    TRY(20, ALL, state[14]--);
-    TRY(20, ALL, state[14] = memory_words = 0);
-    TRY(20, ALL, state[14] = memory_words = 59);
-    TRY(20, ALL, state[14] = memory_words = LENT_MOST);
+    TRY(20, ALL, state[LENGTH]--);
+    TRY(20, ALL, state[LENGTH] = memory_words = 0);
+    TRY(20, ALL, state[LENGTH] = memory_words = 59);
+    TRY(20, ALL, state[LENGTH] = memory_words = LENT_MOST);
     /* A register; a place and a fill past FIFO 0; bits past their counts; a shared one that isn't held; a flag. */
     TRY(20, ALL, state[9] = 64);
-    TRY(20, ALL, state[15] = 2);
-    TRY(20, ALL, state[16] = 3);
-    TRY(20, ALL, state[23] = 4);
-    TRY(20, ALL, state[25] |= UINT32_C(1) << 31);
-    TRY(20, ALL, state[25] |= 8);
+    TRY(20, ALL, state[CUONGPHEMI_STATE_FIFO0_OLDEST] = 2);
+    TRY(20, ALL, state[CUONGPHEMI_STATE_FIFO0_FILL] = 3);
+    TRY(20, ALL, state[CUONGPHEMI_STATE_NEW_DATA_LOW] = 4);
+    TRY(20, ALL, state[CUONGPHEMI_STATE_PENDING] |= UINT32_C(1) << 31);
+    TRY(20, ALL, state[CUONGPHEMI_STATE_PENDING] |= 8);
     TRY(20, ALL, record[0] = UINT32_C(1) << 31);
 }
 

@@ -8,9 +8,8 @@ use borrow.Author.Tests.{eq-eqb, ne-eqb}
 use lib.Dec.{eqb}
 use lib.ListN.{length}
 use Rattle.words.specs.Choice.{pick}
-use Rattle.words.specs.Runs.{splice}
 use Rattle.words.proofs.Choices.{pick-first, pick-second}
-use Rattle.shape.specs.Calls.{Says, outcome, settles}
+use Rattle.shape.specs.Calls.{settles}
 use Rattle.shape.proofs.Calls.{calls-are-shaped}
 use Rattle.registers.specs.declared.Registers.{Registers}
 use Rattle.engine.specs.Answers.{replied}
@@ -19,14 +18,14 @@ use Rattle.engine.specs.States.{neverStarted}
 use Rattle.engine.specs.declared.refusals.Reply.{Reply}
 use Rattle.engine.specs.declared.state.State.{State}
 use Rattle.engine.specs.declared.state.Record.{Record}
-use Rattle.starting.specs.Starting.{unreported, start}
+use Rattle.starting.specs.Starting.{start}
 use Rattle.overview.specs.Overview.{clearFlags, meaning as statusSays, reportStatus}
 use Rattle.overview.specs.declared.StatusAnswer.{StatusAnswer}
 use Rattle.c_words.specs.States.{plainRegisters, unpackRegisters, unpackState, packState, ComesBack, unpackRecord}
 use Rattle.c_words.specs.States.{stateWords, packRecord}
-use Rattle.c_answers.specs.Answers.{resultOf, toldIn, noWords, overviewWords, startWords}
+use Rattle.c_answers.specs.Answers.{resultOf, toldIn, noWords, overviewWords}
 use Rattle.c_entering.specs.Entering.{lent, returned, has, entryNumber, sized}
-use Rattle.c_entering.specs.EngineCalls.{neverStartedCall, startCall, clearCall, statusCall}
+use Rattle.c_entering.specs.EngineCalls.{neverStartedCall, clearCall, statusCall}
 use Rattle.c_entering.proofs.Entries.{alike, open-recorded}
 use Rattle.c_entering.proofs.Crossed.{untold, same-state, same-recorded, told-of}
 

@@ -4,6 +4,7 @@ use Prim.Native.Nat.{ℕ, _+_}
 use mathlib.Core.Path.{_≡_, refl, ap, _∙_}
 use mathlib.Core.Bool.{Bool, true, false, _&&_}
 use mathlib.Core.List.{List}
+use mathlib.Core.Logic.{inl}
 use native.Mathlib.Nat.{zero-add}
 use native.Mathlib.Omega.{arith}
 use lib.ListN.{length, drop, replicate}
@@ -16,7 +17,7 @@ use Rattle.engine.specs.Calls.{World}
 use Rattle.engine.specs.Fitness.{unfit}
 use Rattle.engine.specs.States.{neverStarted}
 use Rattle.engine.specs.declared.state.State.{State}
-use Rattle.engine.proofs.Fits.{no-length-is-unfit, never-started-is-unfit}
+use Rattle.engine.proofs.Fits.{wrong-length-is-unfit, never-started-is-unfit}
 use Rattle.starting.specs.Starting.{start}
 use Rattle.c_words.specs.States.{registerWords, stateWords, plainRegisters, unpackRegisters, unpackState, packState}
 use Rattle.c_words.proofs.Inverse.{values-come-back}
@@ -93,4 +94,4 @@ never-started-is-unfit-in-words l e r words = go (has (l .state) stateWords) e
 
 pub zeroed-is-unfit-in-words : ZeroedIsUnfitInWords
 unfolding unpackState
-zeroed-is-unfit-in-words r words = no-length-is-unfit (unpackState (replicate stateWords 0)) r words refl
+zeroed-is-unfit-in-words r words = wrong-length-is-unfit (unpackState (replicate stateWords 0)) r words (inl refl)

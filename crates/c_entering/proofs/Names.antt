@@ -18,8 +18,8 @@ use Rattle.registers.specs.Fields.{memoryWords, txCount}
 use Rattle.registers.specs.Given.{allNamed}
 use Rattle.registers.specs.declared.Registers.{Registers}
 use Rattle.layout.specs.Sections.{none, sectionsOf}
-use Rattle.layout.specs.Verdict.{plain, wrongMemory, memoryRule, bitsRule, countRule, txRule, endRule, over, past, shares}
-use Rattle.layout.specs.Verdict.{partner, hasPartner, pairRule, firstWith, rules}
+use Rattle.layout.specs.Verdict.{plain, wrongMemory, memoryRule, bitsRule, countRule, txRule, endRule, over, past}
+use Rattle.layout.specs.Verdict.{shares, partner, hasPartner, pairRule, firstWith, rules}
 use Rattle.layout.specs.declared.sections.Section.{Section}
 use Rattle.engine.specs.Calls.{World, Outcome}
 use Rattle.starting.specs.Starting.{unreported, startSays, starts, start}

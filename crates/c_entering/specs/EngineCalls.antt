@@ -1,7 +1,7 @@
 -- Calls 1, 14 and 15 from C, and a state that was never started.
 use Prim.Native.Nat.{ℕ}
 use mathlib.Core.Bool.{true, _&&_}
-use mathlib.Core.List.{List, []}
+use mathlib.Core.List.{List}
 use Rattle.words.specs.Choice.{pick}
 use Rattle.words.specs.Runs.{splice}
 use Rattle.shape.specs.Calls.{Says, refuses, answers, done}
@@ -35,7 +35,8 @@ startInWords l o = startIn l (o .world) (o .output) (o .says)
 -- call 1: the old state may be any words
 unfoldable pub startCall : Lent → List ℕ → Returned
 startCall l registers =
-    entering l (sized (l .state) (l .recorded) && (has registers registerWords && has (l .answer) 16)) (plainRegisters registers)
+    entering l (sized (l .state) (l .recorded) && (has registers registerWords && has (l .answer) 16))
+    (plainRegisters registers)
     (startInWords l (start (worldOf l) (unpackRegisters registers)))
 
 -- call 14

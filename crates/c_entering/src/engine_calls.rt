@@ -42,7 +42,8 @@ pub fn never_started(state: &mut [u32]) -> u32
 
 // The start of the state, record and registers that stand in these words.
 fn start_of(state: &[u32], recorded: &[u32], mem: &[u32], registers: &[u32]) -> Started
-    requires { ⌜ (length (now state) ≡ stateWords) × (length (now recorded) ≡ 2) × (registerWords ≤ length (now registers)) ⌝ }
+    requires { ⌜ (length (now state) ≡ stateWords) × (length (now recorded) ≡ 2)
+        × (registerWords ≤ length (now registers)) ⌝ }
     ensures { λ a. ⌜ outcome (startSays (meaning (a .verdict))) (world (a .state) (a .recorded) (now (mem .entry)))
         (flat (a .sections))
         ≡ startRule (world (unpackState (now (state .entry))) (unpackRecord (now (recorded .entry))) (now (mem .entry)))

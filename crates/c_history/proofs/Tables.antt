@@ -1,7 +1,7 @@
 -- The tests of 100 and 101 that the calls make are those of the tables, and true exactly where the facts are.
 -- Assumes nothing.
 use Prim.Native.Nat.{ℕ, _<_}
-use mathlib.Core.Path.{_≡_, refl, ap, ap₂, _∙_}
+use mathlib.Core.Path.{_≡_, refl, ap, ap₂}
 use mathlib.Core.Bool.{Bool, true, false, _&&_}
 use mathlib.Core.List.{List, [], _∷_}
 use borrow.Author.Tests.{eqb-true, eq-eqb, ltb-true, lt-ltb}
@@ -15,7 +15,7 @@ use Rattle.c_entering.specs.Entering.{Lent, has, sized}
 use Rattle.c_calls.specs.Exported.{FromC, start, receive, readFifo, acknowledgeFifo, readBuffer, releaseBuffer}
 use Rattle.c_calls.specs.Exported.{requestDedicated, requestShared, cancel, askChoice, reportSent, readEvent}
 use Rattle.c_calls.specs.Exported.{acknowledgeEvent, clearFlags, reportStatus}
-use Rattle.c_history.specs.Steps.{ownBuffers, frameYesNos, yesNos, every, haveLengths, sayYesOrNo}
+use Rattle.c_history.specs.Steps.{ownBuffers, frameYesNos, every, haveLengths, sayYesOrNo}
 
 -- ---- the tests as the calls make them
 

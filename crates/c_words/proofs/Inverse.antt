@@ -13,7 +13,7 @@ use Rattle.frame.specs.declared.Frame.{Frame}
 use Rattle.engine.specs.States.{emptyState}
 use Rattle.engine.specs.declared.state.State.{State}
 use Rattle.c_words.specs.Words.{word, yesNo, saysYes, isYesNo}
-use Rattle.c_words.specs.States.{registerWords, stateWords, after}
+use Rattle.c_words.specs.States.{registerWords, stateWords, afterRegisters}
 use Rattle.c_words.specs.States.{plainRegisters, unpackRegisters, packState, unpackState, ComesBack}
 use Rattle.c_words.specs.States.{packRecord, unpackRecord}
 use Rattle.c_words.specs.Needs.{StateWords}
@@ -94,7 +94,7 @@ values-come-back = record { state = state-back; recorded = λ r. refl; frame = f
 spelled-out : (ws : List ℕ) (n : ℕ) → length ws ≡ n → run (word ws) 0 n ≡ ws
 spelled-out ws n e = ap (run (word ws) 0) (sym e) ∙ spelled ws
 
-state-forth : (ws : List ℕ) → length ws ≡ stateWords → after ws 8 < 2 ^ 32 → plainRegisters ws ≡ true → ComesBack ws
+state-forth : (ws : List ℕ) → length ws ≡ stateWords → afterRegisters ws 8 < 2 ^ 32 → plainRegisters ws ≡ true → ComesBack ws
 unfolding packState unpackState run
 state-forth ws e low plain =
     let p = and-both (isYesNo (word ws 12)) (isYesNo (word ws 13)) plain in
@@ -102,13 +102,13 @@ state-forth ws e low plain =
     cc (
       yes-forth (word ws 12) (p .0),
       yes-forth (word ws 13) (p .1),
-      lower (after ws 8) (after ws 9) low,
-      upper (after ws 8) (after ws 9) low,
+      lower (afterRegisters ws 8) (afterRegisters ws 9) low,
+      upper (afterRegisters ws 8) (afterRegisters ws 9) low,
     ) in
     z ∙ spelled-out ws stateWords e
 
 -- a state that was taken from words
-pub taken : (ws : List ℕ) (s : State) → StateWords ws → after ws 8 < 2 ^ 32 → s ≡ unpackState ws
+pub taken : (ws : List ℕ) (s : State) → StateWords ws → afterRegisters ws 8 < 2 ^ 32 → s ≡ unpackState ws
     → (s ≡ unpackState ws) × ComesBack ws
 taken ws s h low e = (e, state-forth ws (h .size) low (h .plain))
 

@@ -30,8 +30,8 @@ abbrev pub unpackRing : List ℕ → ℕ → Ring
 unpackRing ws n = record { oldest = word ws n; fill = word ws (n + 1) }
 
 -- word n after the registers
-abbrev pub after : List ℕ → ℕ → ℕ
-after ws n = word ws (registerWords + n)
+abbrev pub afterRegisters : List ℕ → ℕ → ℕ
+afterRegisters ws n = word ws (registerWords + n)
 
 -- a state: the registers; FIFO 0, FIFO 1, events, shared; the new-data bits, 0 to 31 and 32 to 63; pending, sent,
 -- cancelled
@@ -42,10 +42,10 @@ unpackState ws = record {
   fifo1 = unpackRing ws (registerWords + 2);
   events = unpackRing ws (registerWords + 4);
   shared = unpackRing ws (registerWords + 6);
-  newdata = after ws 8 + after ws 9 * 2 ^ 32;
-  pending = after ws 10;
-  sent = after ws 11;
-  cancelled = after ws 12;
+  newdata = afterRegisters ws 8 + afterRegisters ws 9 * 2 ^ 32;
+  pending = afterRegisters ws 10;
+  sent = afterRegisters ws 11;
+  cancelled = afterRegisters ws 12;
 }
 
 unfoldable pub packState : State → List ℕ

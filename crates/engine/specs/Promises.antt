@@ -3,7 +3,7 @@ use Prim.Native.Nat.{ℕ}
 use mathlib.Core.Path.{_≡_}
 use mathlib.Core.Bool.{true, false}
 use mathlib.Core.Logic.{_↔_}
-use Rattle.registers.specs.Fields.{memoryWords}
+use Rattle.layout.specs.Legal.{WrongMemory}
 use Rattle.engine.specs.Answers.{replied}
 use Rattle.engine.specs.Fitness.{unfit, Sound, FlagsSound}
 use Rattle.engine.specs.States.{neverStarted}
@@ -15,9 +15,9 @@ use Rattle.engine.specs.declared.state.Record.{Record}
 abbrev pub FitIsSound : Type 0
 FitIsSound = (s : State) (r : Record) (words : ℕ) → (unfit s r words ≡ false) ↔ (Sound s words × FlagsSound r)
 
--- a state with a length of 0 is unfit, whatever else it says, so one of zeros is
-abbrev pub NoLengthIsUnfit : Type 0
-NoLengthIsUnfit = (s : State) (r : Record) (words : ℕ) → memoryWords (s .regs) ≡ 0 → unfit s r words ≡ true
+-- a state is unfit for a memory of another length than it keeps, and for every memory where it keeps 0 or over 4,352
+abbrev pub WrongLengthIsUnfit : Type 0
+WrongLengthIsUnfit = (s : State) (r : Record) (words : ℕ) → WrongMemory (s .regs) words → unfit s r words ≡ true
 
 -- a state that was never started is unfit, whatever the record and the memory
 abbrev pub NeverStartedIsUnfit : Type 0

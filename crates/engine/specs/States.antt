@@ -26,7 +26,7 @@ emptyState regs = record {
 abbrev pub noFlags : Record
 noFlags = record { flags = 0; priority = 0 }
 
--- registers of 0, but for a GFC that no start accepts, and no memory
+-- registers and a length of 0, but for a GFC that no start accepts
 abbrev pub neverStarted : State
 neverStarted =
     emptyState

@@ -5,9 +5,8 @@ use mathlib.Core.Path.{_≡_, refl, ap, _∙_}
 use mathlib.Core.List.{List}
 use lib.ListN.{length}
 use Rattle.words.specs.Least.{leastFrom}
-use Rattle.words.specs.Rules.{Ruling, allowed, first}
+use Rattle.words.specs.Rules.{allowed, first}
 use Rattle.shape.specs.Calls.{done}
-use Rattle.shape.specs.Refusals.{Refusal}
 use Rattle.shape.proofs.Calls.{call-done}
 use Rattle.registers.specs.Fields.{fifoWord, fifoCode}
 use Rattle.registers.specs.declared.Registers.{Registers}

@@ -31,7 +31,7 @@ use Rattle.engine.specs.States.{fifoRing}
 use Rattle.receiving.specs.Receive.{receiveRefusals, intoFifo, intoBuffer, intoNothing}
 use Rattle.requesting.specs.Requesting.{dedicatedRefusals, written, requests}
 use Rattle.choosing.specs.Choosing.{isCandidate, choice, choiceRefusals, chooses}
-use Rattle.handler.specs.Stars.{StarsHold}
+use Rattle.handler.specs.Stars.{StarsHold, LengthsHold}
 
 pub stars-hold : StarsHold
 unfolding call verdict leastFrom partner section unfit fits held age sharedUnfit sharedRingSize malformed dataLength
@@ -41,7 +41,9 @@ unfolding call verdict leastFrom partner section unfit fits held age sharedUnfit
     dedicatedRefusals requests written withBit withoutMask
     choiceRefusals outputRefusals chooses choice bestBelow isCandidate frameIn txHeaderIn asSent
     sentFrom sentByte byteIn
-stars-hold = (
-  (refl, (refl, (refl, (refl, (refl, (refl, (refl, (refl, (refl, (refl, (refl, (refl, (refl, (refl, tt)))))))))))))),
-  (refl, (refl, (refl, (refl, (refl, (refl, tt)))))),
-)
+stars-hold =
+    (refl, (refl, (refl, (refl, (refl, (refl, (refl, (refl, (refl, (refl, (refl, (refl, (refl, (refl, tt))))))))))))))
+
+pub lengths-hold : LengthsHold
+unfolding call verdict leastFrom partner section fifoWord fifoCode
+lengths-hold = (refl, (refl, (refl, (refl, (refl, (refl, tt))))))

@@ -1,5 +1,5 @@
--- The paper's ★ cases, and the lengths of a memory: two tables, one claim. In each row the calls and the rules give
--- what the paper says.
+-- The paper's ★ cases: one table, one claim. In each row the calls and the rules give what the paper says. Beside it,
+-- a table of a memory's lengths.
 use Prim.Native.Nat.{ℕ, _-_}
 use mathlib.Core.Path.{_≡_}
 use mathlib.Core.Bool.{Bool, true, false}
@@ -117,7 +117,7 @@ bytesSent code f d =
     let o = step pending (askChoice false (replicate 64 0)) in
     toSend (o .says) (o .output)
 
--- ---- the tables
+-- ---- the table, and that of lengths
 
 abbrev pub stars : List Star
 stars =
@@ -156,4 +156,7 @@ Hold [] = Unit {0}
 Hold (s ∷ ss) = (s .rules ≡ s .paper) × Hold ss
 
 abbrev pub StarsHold : Type 0
-StarsHold = Hold stars × Hold lengths
+StarsHold = Hold stars
+
+abbrev pub LengthsHold : Type 0
+LengthsHold = Hold lengths

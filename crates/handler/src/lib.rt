@@ -5,7 +5,7 @@
 pub use engine::state::Record;
 pub use engine::state::State;
 pub use frame::Frame;
-pub use layout::check::MOST_WORDS;
+pub use layout::check::MEMORY_MOST;
 pub use registers::Registers;
 pub use registers::kinds::Gfc;
 pub use registers::kinds::Rxbc;

@@ -2,6 +2,7 @@
 use Prim.Native.Nat.{ℕ, _+_, _*_, _/_, _≤_, _<_}
 use mathlib.Core.Path.{_≡_}
 use mathlib.Core.List.{List, [], _∷_}
+use mathlib.Core.Logic.{_⊎_}
 use lib.ListN.{getD}
 use Rattle.words.specs.Fields.{RestZero}
 use Rattle.registers.specs.Kinds
@@ -13,6 +14,11 @@ pub record RightMemory (r : Registers) (words : ℕ) : Type 0 where
   pub some : 0 < Fields.memoryWords r
   pub most : Fields.memoryWords r ≤ 4352
   pub lent : words ≡ Fields.memoryWords r
+
+-- it has not, or that length is none that a memory may have
+abbrev pub WrongMemory : Registers → ℕ → Type 0
+WrongMemory r words =
+    (Fields.memoryWords r ≡ 0) ⊎ (4352 < Fields.memoryWords r) ⊎ (words ≡ Fields.memoryWords r → ⊥)
 
 -- every bit that the paper does not name is 0
 pub record Named (r : Registers) : Type 0 where

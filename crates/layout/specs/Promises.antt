@@ -7,7 +7,7 @@ use Rattle.shape.specs.Refusals.{Refusal, names}
 use Rattle.registers.specs.Fields.{memoryWords, dedicated, shared}
 use Rattle.registers.specs.declared.Registers.{Registers}
 use Rattle.layout.specs.Verdict.{meaning, verdict}
-use Rattle.layout.specs.Legal.{RightMemory, Named, TooMany, WithinMost, Counted, Has, Legal}
+use Rattle.layout.specs.Legal.{RightMemory, WrongMemory, Named, TooMany, WithinMost, Counted, Has, Legal}
 use Rattle.layout.specs.declared.check.Verdict.{Verdict}
 
 -- a start is accepted exactly where its layout is legal
@@ -44,8 +44,7 @@ AllApart r = (i j k : ℕ) → i < j → j < 7 → Has r i k → Has r j k → �
 -- when each refusal is given, exactly, and which sections it names (7 for none): the lowest number that applies
 pub record Refuses (Gives : Refusal → Type 0) (r : Registers) (words : ℕ) : Type 0 where
   -- 10: the given length is 0, or above 4,352, or the memory is of another length
-  pub memory : Gives (names 10 7 7)
-      ↔ ((memoryWords r ≡ 0) ⊎ (4352 < memoryWords r) ⊎ (words ≡ memoryWords r → ⊥))
+  pub memory : Gives (names 10 7 7) ↔ WrongMemory r words
   -- 11: none of this, and some bit that is not named is set
   pub bits : Gives (names 11 7 7) ↔ (RightMemory r words × (Named r → ⊥))
   -- 12: neither, and i is the first section with a count over its most

@@ -12,8 +12,8 @@ use Rattle.registers.specs.declared.Registers.{Registers}
 use Rattle.layout.specs.declared.sections.Section.{Section}
 
 -- the most words that a memory may have
-abbrev pub mostWords : ℕ
-mostWords = 4352
+abbrev pub memoryMost : ℕ
+memoryMost = 4352
 
 -- no words; its start is reported as 0
 abbrev pub none : Section

@@ -10,7 +10,7 @@ use Rattle.shape.specs.Refusals.{Refusal, names, Refusals}
 use Rattle.registers.specs.Fields.{memoryWords, txCount}
 use Rattle.registers.specs.Given.{allNamed}
 use Rattle.registers.specs.declared.Registers.{Registers}
-use Rattle.layout.specs.Sections.{mostWords, none, overMost, sectionsOf}
+use Rattle.layout.specs.Sections.{memoryMost, none, overMost, sectionsOf}
 use Rattle.layout.specs.declared.sections.Section.{Section}
 use Rattle.layout.specs.declared.check.Naming.{Naming}
 use Rattle.layout.specs.declared.check.Verdict.{Verdict}
@@ -44,7 +44,7 @@ firstWith n fault = refuseIf (ltb (leastFrom fault 0 7) 7) (names n (leastFrom f
 
 -- 10: the given length is 0, or over the most, or not the memory's
 abbrev pub wrongMemory : ℕ → ℕ → Bool
-wrongMemory given words = eqb given 0 || ltb mostWords given || not (eqb words given)
+wrongMemory given words = eqb given 0 || ltb memoryMost given || not (eqb words given)
 
 abbrev pub memoryRule : Registers → ℕ → Ruling Refusal
 memoryRule r words = refuseIf (wrongMemory (memoryWords r) words) (plain 10)

@@ -15,7 +15,7 @@ ghost use Rattle.layout.specs.Verdict.{meaning, numbers, asRefusal};
 ghost use Rattle.layout.specs.Verdict.{wrongMemory, end, past, shares, pairRule, verdict, reported};
 
 // The most words that a memory may have.
-pub const MOST_WORDS: u32 = 4352;
+pub const MEMORY_MOST: u32 = 4352;
 
 // Sections are named by their numbers, 0 to 6.
 pub enum Verdict {
@@ -148,7 +148,7 @@ fn check_pairs(s: [Section; 7]) -> Verdict
 fn wrong_memory(given: u32, len: usize) -> bool
     ensures { λ b. ⌜ b ≡ wrongMemory given len ⌝ }
 {
-    (given == 0) | (MOST_WORDS < given) | (len != given as usize)
+    (given == 0) | (MEMORY_MOST < given) | (len != given as usize)
 }
 
 pub fn check(regs: Registers, len: usize) -> Verdict

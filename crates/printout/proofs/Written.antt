@@ -3,13 +3,13 @@
 use Prim.Native.Nat.{ℕ, zero, suc, _+_, _-_, _*_, _/_, _%_, _^_, _≤_, _<_}
 use mathlib.Core.Path.{_≡_, refl, sym, ap, subst, _∙_}
 use mathlib.Core.Bool.{Bool, true, false, not, _&&_}
-use mathlib.Core.List.{List, [], _∷_}
-use mathlib.Core.Logic.{_⊎_, inl, inr, ⊎-elim}
+use mathlib.Core.List.{List}
+use mathlib.Core.Logic.{inl, inr}
 use borrow.Author.Tests.{eqb-true, eqb-false, eq-eqb, lt-ltb, le-ltb, leb-true, not-false}
 use native.Mathlib.Nat.{zero-add}
 use native.Mathlib.Omega.{arith}
 use lib.Dec.{eqb, eqb→eq, ltb, leb}
-use lib.ListN.{length, getD}
+use lib.ListN.{getD}
 use Rattle.words.specs.Choice.{pick}
 use Rattle.words.proofs.Choices.{pick-first, pick-second, and-both}
 use Rattle.words.proofs.Lowest.{least-below, least-absent}
@@ -21,7 +21,6 @@ use Rattle.shape.specs.Refusals.{Refusal}
 use Rattle.layout.specs.Sections.{sectionsOf}
 use Rattle.layout.specs.Verdict.{verdict}
 use Rattle.layout.specs.declared.sections.Section.{Section}
-use Rattle.registers.specs.declared.Registers.{Registers}
 use Rattle.printout.specs.Ascii.{ascii}
 use Rattle.printout.specs.Input.{within, digitOf, inPlace, outOfPlace, firstOut, readable, numberFrom, number}
 use Rattle.printout.specs.Input.{benchWords, registersOf}

@@ -1,9 +1,9 @@
 -- Each field's name is of its bits: by computation, and the flags by their test.
 -- Assumes nothing.
-use mathlib.Core.Path.{_≡_, refl}
+use mathlib.Core.Path.{refl}
 use borrow.Author.Tests.{eqb-true, eq-eqb}
 use Rattle.registers.specs.Fields.{fifoWord, fifoCode}
-use Rattle.registers.specs.Promises.{FieldsAre, FieldsAreTheirBits, NamedBitsAreThose}
+use Rattle.registers.specs.Promises.{FieldsAreTheirBits, NamedBitsAreThose}
 
 pub fields-are-their-bits : FieldsAreTheirBits
 unfolding fifoWord fifoCode

@@ -40,7 +40,7 @@ registersFrom word fdon rateon memory = record {
   memory = memory;
 }
 
--- the manual's reset words: all 0 but XIDAM. A reset gives no memory
+-- the manual's reset words: all 0 but XIDAM. A reset gives no length of a memory
 abbrev pub resetRegisters : Registers
 resetRegisters = record {
   sidfc = record { word = 0 };

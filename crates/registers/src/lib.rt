@@ -37,7 +37,7 @@ pub struct Registers {
 }
 
 impl Registers {
-    // The words that the manual gives after a reset, with no Rx buffer, FD off, the rate switch off and no memory.
+    // The words that the manual gives after a reset, with no Rx buffer, FD off, the rate switch off and a length of 0.
     pub fn reset() -> Self
         ensures { λ r. ⌜ r ≡ resetRegisters ⌝ }
     {

@@ -19,12 +19,12 @@ use Rattle.registers.specs.Fields.{fifoSize, eventSize, dedicated}
 use Rattle.registers.specs.declared.Registers.{Registers}
 use Rattle.layout.specs.Verdict.{rules, verdict}
 use Rattle.layout.proofs.Accepted.{accepted-is-legal}
-use Rattle.engine.specs.Calls.{World, Outcome, isUnfit}
+use Rattle.engine.specs.Calls.{Outcome, isUnfit}
 use Rattle.engine.specs.Fitness.{sharedRingSize, unfit, Sound}
 use Rattle.engine.specs.States.{emptyState, noFlags}
 use Rattle.engine.proofs.Cases.{shared-most}
 use Rattle.engine.proofs.Sounds.{fit-of}
-use Rattle.starting.specs.Promises.{StartIsFit, EmptyRing, Fresh, StartIsFresh}
+use Rattle.starting.specs.Promises.{StartIsFit, Fresh, StartIsFresh}
 use Rattle.starting.specs.Starting.{unreported, starts}
 
 no-bit : (k : ℕ) → bit 0 k ≡ 0

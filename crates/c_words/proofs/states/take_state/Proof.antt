@@ -12,4 +12,5 @@ take-state-spec =
     tie.close
     (tie.spec
     (λ c κs. search needs)
-    (λ c. taken _ _ (search needs) (omega (arith, c .before .shared-slice-known .given (registerWords + 8))) (search needs)))
+    (λ c. taken _ _ (search needs) (omega (arith, c .before .shared-slice-known .given (registerWords + 8)))
+    (search needs)))
