@@ -47,13 +47,13 @@ rows w c =
     let r = g .registers in
     let words = length (w .memory) in
     let ss = sectionsOf r in
-    let end = firstWith (past (memoryWords r) ss) in
+    let beyond = firstWith (past (memoryWords r) ss) in
     let pair = firstWith (hasPartner ss) in
     row g 10 (1 ∷ []) (eqb (memoryWords r) 0 || ltb 4352 (memoryWords r) || not (eqb words (memoryWords r)))
     ∷ row g 11 (1 ∷ []) (not (allNamed r))
     ∷ naming g (names 12 (firstWith (over r)) 7) (1 ∷ []) (ltb (firstWith (over r)) 7)
     ∷ row g 13 (1 ∷ []) (ltb 32 (dedicated r + shared r))
-    ∷ naming g (names 14 end 7) (1 ∷ []) (ltb end 7)
+    ∷ naming g (names 14 beyond 7) (1 ∷ []) (ltb beyond 7)
     ∷ naming g (names 15 pair (partner ss pair)) (1 ∷ []) (ltb pair 7)
     ∷ row g 20 allButStart (isUnfit w)
     ∷ row g 21 (2 ∷ 7 ∷ 8 ∷ []) (malformed (g .frame) (g .bytes))

@@ -15,7 +15,7 @@ pub record RightMemory (r : Registers) (words : ℕ) : Type 0 where
   pub most : Fields.memoryWords r ≤ 4352
   pub lent : words ≡ Fields.memoryWords r
 
--- it has not, or that length is none that a memory may have
+-- the given length is 0, or above 4,352, or not the memory's
 abbrev pub WrongMemory : Registers → ℕ → Type 0
 WrongMemory r words =
     (Fields.memoryWords r ≡ 0) ⊎ (4352 < Fields.memoryWords r) ⊎ (words ≡ Fields.memoryWords r → ⊥)

@@ -43,9 +43,9 @@ AllApart r = (i j k : ℕ) → i < j → j < 7 → Has r i k → Has r j k → �
 
 -- when each refusal is given, exactly, and which sections it names (7 for none): the lowest number that applies
 pub record Refuses (Gives : Refusal → Type 0) (r : Registers) (words : ℕ) : Type 0 where
-  -- 10: the given length is 0, or above 4,352, or the memory is of another length
+  -- 10: the memory is wrong
   pub memory : Gives (names 10 7 7) ↔ WrongMemory r words
-  -- 11: none of this, and some bit that is not named is set
+  -- 11: it is right, and some bit that is not named is set
   pub bits : Gives (names 11 7 7) ↔ (RightMemory r words × (Named r → ⊥))
   -- 12: neither, and i is the first section with a count over its most
   pub count : (i : ℕ)
