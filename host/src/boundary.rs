@@ -19,10 +19,10 @@ pub const LENGTH_WORD: usize = 14;
 
 /// The words of a state after the registers: the four rings, each with its oldest place and its fill, then the bits.
 pub const FIRST_RING: usize = REGISTER_WORDS;
-pub const NEW_DATA: usize = FIRST_RING + 8;
-pub const PENDING: usize = NEW_DATA + 2;
-pub const SENT: usize = PENDING + 1;
-pub const CANCELLED: usize = SENT + 1;
+pub const NEW_DATA_WORD: usize = FIRST_RING + 8;
+pub const PENDING_WORD: usize = NEW_DATA_WORD + 2;
+pub const SENT_WORD: usize = PENDING_WORD + 1;
+pub const CANCELLED_WORD: usize = SENT_WORD + 1;
 
 pub const WRONG_LENGTH: u32 = 100;
 pub const NEITHER_YES_NOR_NO: u32 = 101;
@@ -198,10 +198,10 @@ pub fn unpack_state(w: &[u32]) -> Result<State, u32> {
         fifo1: ring(1),
         events: ring(2),
         shared: ring(3),
-        new_data: u64::from(w[NEW_DATA]) | u64::from(w[NEW_DATA + 1]) << 32,
-        pending: w[PENDING],
-        sent: w[SENT],
-        cancelled: w[CANCELLED],
+        new_data: u64::from(w[NEW_DATA_WORD]) | u64::from(w[NEW_DATA_WORD + 1]) << 32,
+        pending: w[PENDING_WORD],
+        sent: w[SENT_WORD],
+        cancelled: w[CANCELLED_WORD],
     })
 }
 
@@ -212,11 +212,11 @@ pub fn pack_state(s: &State, w: &mut [u32]) {
         w[FIRST_RING + 2 * nth] = ring.oldest;
         w[FIRST_RING + 2 * nth + 1] = ring.fill;
     }
-    w[NEW_DATA] = s.new_data as u32;
-    w[NEW_DATA + 1] = (s.new_data >> 32) as u32;
-    w[PENDING] = s.pending;
-    w[SENT] = s.sent;
-    w[CANCELLED] = s.cancelled;
+    w[NEW_DATA_WORD] = s.new_data as u32;
+    w[NEW_DATA_WORD + 1] = (s.new_data >> 32) as u32;
+    w[PENDING_WORD] = s.pending;
+    w[SENT_WORD] = s.sent;
+    w[CANCELLED_WORD] = s.cancelled;
 }
 
 pub fn unpack_record(w: &[u32]) -> Record {

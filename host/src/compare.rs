@@ -710,9 +710,9 @@ impl Comparison {
     /// Wrong lengths of the boundary's own pieces, 100.
     fn wild_lengths(&mut self) {
         let random = &mut self.random;
-        let mut wild = |right: usize, most: u32| {
+        let mut wild = |right: usize, most: usize| {
             if random.once_in(50) {
-                random.between(0, most) as usize
+                random.between(0, most as u32) as usize
             } else {
                 right
             }
