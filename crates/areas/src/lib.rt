@@ -1,4 +1,6 @@
 // The areas of the memory where elements stand: FIFO 0 and 1, Rx buffers, events and Tx buffers.
+#![tactic(auto)]
+
 ghost use Rattle.std.specs.Prelude.{◌≡◌, ◌≤◌};
 ghost use Rattle.areas.specs.Areas.{area_in, fifo_area, buffer_area, event_area, tx_area, data_words};
 

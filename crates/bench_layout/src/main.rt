@@ -1,4 +1,6 @@
 // Reads a layout's registers from standard input and prints what a start says of them.
+#![tactic(auto)]
+
 use libc::{STDIN_FILENO, STDOUT_FILENO};
 
 fn main() {

@@ -1,4 +1,6 @@
 // What the handler's calls say, in words.
+#![tactic(auto)]
+
 pub mod engine_answers;
 pub mod numbers;
 pub mod receiving_answers;

@@ -1,4 +1,6 @@
 // The handler for C: every call on numbers and slices of words, under a name of its own.
+#![tactic(auto)]
+
 ghost use Rattle.std.specs.Prelude.{◌≡◌, []};
 ghost use Rattle.c_entering.specs.Entering.{returned, lent};
 ghost use Rattle.c_entering.specs.EngineCalls.{never_started_call};

@@ -1,4 +1,6 @@
 // Calls 10 and 11 on words.
+#![tactic(auto)]
+
 ghost use Rattle.std.specs.Prelude.{◌≡◌, []};
 ghost use Rattle.shape.specs.Calls.{settles};
 ghost use Rattle.engine.specs.Answers.{replied};

@@ -23,7 +23,7 @@ use frame::{Frame, data_length};
 use places::{Area, place_in};
 
 // The frame to send next, as it is sent.
-#[derive(Drop)]
+#[derive(Clone, Copy)]
 pub struct Chosen {
     pub buffer: u32,
     pub marker: u8,
@@ -34,7 +34,7 @@ pub struct Chosen {
     pub count: u32,
 }
 
-#[derive(Drop)]
+#[derive(Clone, Copy)]
 pub enum ChoiceAnswer {
     // nothing is pending
     Nothing,

@@ -13,7 +13,7 @@ use ring::Ring;
 use words::bits32;
 
 // The best candidate, if there is one.
-#[derive(Drop)]
+#[derive(Clone, Copy)]
 pub enum Pick {
     Nobody,
     Buffer(u32),

@@ -1,4 +1,6 @@
 // Elements of the memory: a received frame, a frame to send, and an event, to words and back.
+#![tactic(auto)]
+
 pub mod memory;
 pub mod pack;
 pub mod unpack;
@@ -6,7 +8,7 @@ pub mod unpack;
 use frame::{Frame, Matched};
 
 // What a receive stores. The frame's bytes are lent beside it.
-#[derive(Drop)]
+#[derive(Clone, Copy)]
 pub struct Arrival {
     pub frame: Frame,
     // the timestamp
@@ -16,7 +18,7 @@ pub struct Arrival {
 }
 
 // What stands in the first two words of an Rx element.
-#[derive(Drop)]
+#[derive(Clone, Copy)]
 pub struct RxHeader {
     pub frame: Frame,
     // no filter matched
@@ -28,7 +30,7 @@ pub struct RxHeader {
 }
 
 // What a read of an Rx element answers.
-#[derive(Drop)]
+#[derive(Clone, Copy)]
 pub struct RxRead {
     pub header: RxHeader,
     // how many bytes it wrote
@@ -36,7 +38,7 @@ pub struct RxRead {
 }
 
 // What a request brings, and what stands in the first two words of a Tx element. The frame's bytes are lent beside it.
-#[derive(Drop)]
+#[derive(Clone, Copy)]
 pub struct TxHeader {
     pub frame: Frame,
     pub marker: u8,
@@ -45,7 +47,7 @@ pub struct TxHeader {
 }
 
 // What stands in an event.
-#[derive(Drop)]
+#[derive(Clone, Copy)]
 pub struct EventHeader {
     pub frame: Frame,
     pub marker: u32,

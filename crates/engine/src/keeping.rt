@@ -8,7 +8,7 @@ use crate::state::Record;
 use places::{Slot, take};
 use ring::Ring;
 
-#[derive(Drop)]
+#[derive(Clone, Copy)]
 pub struct Kept {
     pub slot: Slot,
     pub ring: Ring,
@@ -16,7 +16,7 @@ pub struct Kept {
 }
 
 // A ring of this size, watermark and mode, whose flags start at `first`.
-#[derive(Drop)]
+#[derive(Clone, Copy)]
 pub struct Keeper {
     pub size: u32,
     pub mark: u32,

@@ -1,4 +1,6 @@
 // The engine: its state and record, when they are unfit, what calls are refused by, and what becomes of a new element.
+#![tactic(auto)]
+
 pub mod fitness;
 pub mod flags;
 pub mod holding;

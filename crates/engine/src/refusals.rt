@@ -4,7 +4,7 @@ ghost use Rattle.words.specs.Rules.{◌or_else◌, first};
 ghost use Rattle.engine.specs.Answers.{number_of, ruled};
 ghost use Rattle.engine.specs.Calls.{output_refusals};
 
-#[derive(Drop)]
+#[derive(Clone, Copy)]
 pub enum Refusal {
     Unfit,
     Malformed,
@@ -41,14 +41,14 @@ impl Refusal {
 }
 
 // The answer of a call that has nothing to tell.
-#[derive(Drop)]
+#[derive(Clone, Copy)]
 pub enum Reply {
     Done,
     Refused(Refusal),
 }
 
 // Nothing, or the refusal of the lowest number.
-#[derive(Drop)]
+#[derive(Clone, Copy)]
 pub enum Judged {
     Allowed,
     Refused(Refusal),

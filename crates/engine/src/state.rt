@@ -6,7 +6,7 @@ use registers::Registers;
 use ring::Ring;
 
 // Everything else is worked out from these.
-#[derive(Drop)]
+#[derive(Clone, Copy)]
 pub struct State {
     // the registers as given to the start
     pub regs: Registers,
@@ -24,7 +24,7 @@ pub struct State {
 }
 
 #[repr(C)]
-#[derive(Drop)]
+#[derive(Clone, Copy)]
 pub struct Record {
     pub flags: u32,
     pub priority: u32,

@@ -1,4 +1,6 @@
 // Calls 12 and 13, read and acknowledge an event.
+#![tactic(auto)]
+
 ghost use Rattle.std.specs.Prelude.{◌≡◌, length};
 ghost use Rattle.words.specs.Rules.{first};
 ghost use Rattle.shape.specs.Calls.{settles};
@@ -28,7 +30,7 @@ fn judge_event(s: State, recorded: Record, mem: &[u32], place: u32) -> Judged
     judge_held(s.events, s.regs.txefc.count(), place)
 }
 
-#[derive(Drop)]
+#[derive(Clone, Copy)]
 pub enum EventAnswer {
     Read(EventHeader),
     Refused(Refusal),
@@ -52,7 +54,7 @@ pub fn read_event(s: State, recorded: Record, mem: &[u32], place: u32) -> EventA
     }
 }
 
-#[derive(Drop)]
+#[derive(Clone, Copy)]
 pub struct AfterAcknowledge {
     pub reply: Reply,
     pub state: State,

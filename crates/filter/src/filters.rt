@@ -3,7 +3,7 @@ ghost use Rattle.std.specs.Prelude.{◌≡◌};
 ghost use Rattle.filter.specs.Elements.{element11, element29};
 ghost use Rattle.filter.specs.Matching.{seen, in_range, either_of, at_set_bits, by_type, matches};
 
-#[derive(Drop)]
+#[derive(Clone, Copy)]
 pub struct FilterElement {
     // the type, 0 to 3
     pub filtertype: u32,

@@ -1,4 +1,6 @@
 // Where a received frame goes: by its kind's filter list, or by what becomes of frames that no filter matches.
+#![tactic(auto)]
+
 pub mod filters;
 pub mod lists;
 
@@ -13,7 +15,7 @@ use frame::{Frame, Matched};
 use registers::Registers;
 
 // Why a frame is discarded.
-#[derive(Drop)]
+#[derive(Clone, Copy)]
 pub enum Reason {
     Remote,
     Reject,
@@ -42,7 +44,7 @@ impl Reason {
 }
 
 // Where a frame goes, with the element that matched it, if one did.
-#[derive(Drop)]
+#[derive(Clone, Copy)]
 pub enum Destination {
     // to FIFO 0 or 1, and whether with priority
     Fifo(u32, bool, Matched),

@@ -8,7 +8,7 @@ use registers::Registers;
 use words::WordAddress;
 
 // A list: of which kind, where it starts, how many elements it has, and what XIDAM lets through.
-#[derive(Drop)]
+#[derive(Clone, Copy)]
 pub struct FilterList {
     pub xtd: bool,
     pub start: WordAddress,

@@ -1,4 +1,6 @@
 // An example for Rattle: a box's registers put together field by field, and the box started. It is document 01's case A.
+#![tactic(auto)]
+
 ghost use Rattle.std.specs.Prelude.{◌≡◌, length};
 ghost use Rattle.shape.specs.Calls.{done};
 ghost use Rattle.layout.specs.Verdict.{meaning};

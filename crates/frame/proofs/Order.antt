@@ -70,6 +70,8 @@ value_run x h k (suc n) low w (suc t) rest e d =
 
 pub wins_value : (w : ℕ) {a b : List ℕ} → Binary a → Wins a b → length a ≤ w → value w a < value w b
 unfolding value
+wins_value zero {b = b} none k l = elim k [ ]
+wins_value (suc w) {b = b} none k l = elim k [ ]
 wins_value zero (more h p) here l = absurd (omega arith)
 wins_value (suc w) (more h p) here l = omega (arith, value_lt w p)
 wins_value zero (more h p) (later q) l = absurd (omega arith)

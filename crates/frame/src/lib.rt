@@ -1,4 +1,6 @@
 // A frame: its data length, whether it is malformed, its rank in arbitration, and its form as sent.
+#![tactic(auto)]
+
 pub mod sizes;
 
 ghost use Rattle.std.specs.Prelude.{◌≡◌, ◌^◌, ◌≤◌, ◌<◌};
@@ -11,7 +13,7 @@ ghost use Rattle.frame.specs.Sent.{as_sent};
 use words::bit_of;
 
 // A frame but for its data, which are lent beside it. The values may be wrong.
-#[derive(Drop)]
+#[derive(Clone, Copy)]
 pub struct Frame {
     // the identifier
     pub id: u32,
@@ -29,7 +31,7 @@ pub struct Frame {
 }
 
 // The filter element that matched a frame, by its index, if one did.
-#[derive(Drop)]
+#[derive(Clone, Copy)]
 pub enum Matched {
     Nothing,
     Filter(u32),

@@ -1,5 +1,6 @@
 // The public face: the fifteen calls in the paper's order.
 // The contract of each is that what it returns means what its definition says.
+#![tactic(auto)]
 
 // State, record and registers, and a frame.
 pub use engine::state::{Record, State};

@@ -1,5 +1,7 @@
 // The record, changed in place by the caller's interrupt code: thin functions over the steps by value.
 // They are raw steps: no state is asked for, and nothing is refused.
+#![tactic(auto)]
+
 ghost use Rattle.std.specs.Prelude.{◌≡◌};
 ghost use Rattle.engine.specs.Flags.{cleared, with_priority};
 ghost use Rattle.inplace.specs.Raising.{raised_mask};

@@ -14,7 +14,7 @@ use registers::kinds::Txbc;
 pub const MEMORY_MOST: u32 = 4352;
 
 // Sections are named by their numbers, 0 to 6.
-#[derive(Drop)]
+#[derive(Clone, Copy)]
 pub enum Verdict {
     Accepted,
     WrongMemory,
@@ -26,7 +26,7 @@ pub enum Verdict {
 }
 
 // What a verdict says in the paper's numbers: its own, and the two sections that it names (7 for none).
-#[derive(Drop)]
+#[derive(Clone, Copy)]
 pub struct Naming {
     pub number: u32,
     pub section: usize,
@@ -71,7 +71,7 @@ fn naming_of(number: u32, section: usize, other: usize) -> Naming
 }
 
 // What a start has to say of a layout: the verdict, and the seven sections where it accepts.
-#[derive(Drop)]
+#[derive(Clone, Copy)]
 pub struct Report {
     pub verdict: Verdict,
     pub sections: [Section; 7],

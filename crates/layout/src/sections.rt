@@ -10,7 +10,7 @@ use registers::kinds::{Rxbc, Rxfc, Sidfc, Txbc, Txefc, Xidfc};
 use words::WordAddress;
 
 // A section as reported: its first word and how many it has. One of count 0 has none, and starts at 0.
-#[derive(Drop)]
+#[derive(Clone, Copy)]
 pub struct Section {
     pub start: WordAddress,
     pub words: u32,

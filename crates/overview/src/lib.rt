@@ -1,4 +1,6 @@
 // Calls 14, clear flags, and 15, report status.
+#![tactic(auto)]
+
 ghost use Rattle.std.specs.Prelude.{◌≡◌};
 ghost use Rattle.ring.specs.Rings.{Fit};
 ghost use Rattle.shape.specs.Calls.{settles};
@@ -14,7 +16,7 @@ use engine::state::{Record, State};
 use ring::Ring;
 use words::bits32;
 
-#[derive(Drop)]
+#[derive(Clone, Copy)]
 pub struct Cleared {
     pub reply: Reply,
     pub recorded: Record,
@@ -38,14 +40,14 @@ pub fn clear_flags(s: State, recorded: Record, mem: &[u32], mask: u32) -> Cleare
 }
 
 // How a ring stands. The first place of a section, and of the shared part, is 0.
-#[derive(Drop)]
+#[derive(Clone, Copy)]
 pub struct RingStatus {
     pub fill: u32,
     pub oldest: u32,
     pub put: u32,
 }
 
-#[derive(Drop)]
+#[derive(Clone, Copy)]
 pub struct Overview {
     pub fifo0: RingStatus,
     pub fifo1: RingStatus,
@@ -54,7 +56,7 @@ pub struct Overview {
     pub pending: u32,
 }
 
-#[derive(Drop)]
+#[derive(Clone, Copy)]
 pub enum StatusAnswer {
     Told(Overview),
     Refused(Refusal),

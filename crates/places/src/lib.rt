@@ -1,4 +1,6 @@
 // Places of elements in a memory, and what becomes of a new element in a ring of places.
+#![tactic(auto)]
+
 ghost use Rattle.std.specs.Prelude.{◌≡◌, ◌+◌, ◌≤◌};
 ghost use Rattle.ring.specs.Rings.{Fit};
 ghost use Rattle.places.specs.Areas.{place_in, HasPlace};
@@ -8,7 +10,7 @@ use ring::Ring;
 use words::WordAddress;
 
 // So many elements of so many words each, from a word of the memory on.
-#[derive(Drop)]
+#[derive(Clone, Copy)]
 pub struct Area {
     pub start: WordAddress,
     pub count: u32,
@@ -24,13 +26,13 @@ pub fn place_in(a: Area, place: u32, words: usize) -> WordAddress
 }
 
 // Where a new element goes, if anywhere.
-#[derive(Drop)]
+#[derive(Clone, Copy)]
 pub enum Slot {
     At(u32),
     Lost,
 }
 
-#[derive(Drop)]
+#[derive(Clone, Copy)]
 pub struct Taken {
     pub slot: Slot,
     pub ring: Ring,

@@ -1,4 +1,6 @@
 // What the bench program prints: the layout that its twelve registers give, its refusal, or `layout unread`.
+#![tactic(auto)]
+
 mod reading;
 mod text;
 

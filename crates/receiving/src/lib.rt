@@ -1,4 +1,6 @@
 // Call 2, receive.
+#![tactic(auto)]
+
 mod judging;
 mod noting;
 pub mod receive;

@@ -23,7 +23,7 @@ use places::Slot;
 use words::bits64;
 
 // What became of a frame, with the filter element that matched it, if one did.
-#[derive(Drop)]
+#[derive(Clone, Copy)]
 pub enum Received {
     // in a FIFO, at a place
     Stored(u32, u32, Matched),
@@ -35,7 +35,7 @@ pub enum Received {
     Refused(Refusal),
 }
 
-#[derive(Drop)]
+#[derive(Clone, Copy)]
 pub struct AfterReceive {
     pub answer: Received,
     pub state: State,

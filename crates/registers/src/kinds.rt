@@ -12,7 +12,7 @@ ghost use Rattle.registers.specs.Kinds.{txesc, txesc_size, gfc, gfc_anfs, gfc_an
 use words::{WordAddress, bit_of};
 
 // 11-bit filters: count and start.
-#[derive(Drop)]
+#[derive(Clone, Copy)]
 pub struct Sidfc {
     pub word: u32,
 }
@@ -63,7 +63,7 @@ impl Sidfc {
 }
 
 // 29-bit filters: count and start.
-#[derive(Drop)]
+#[derive(Clone, Copy)]
 pub struct Xidfc {
     pub word: u32,
 }
@@ -114,7 +114,7 @@ impl Xidfc {
 }
 
 // An Rx FIFO: overwrite, watermark, count and start.
-#[derive(Drop)]
+#[derive(Clone, Copy)]
 pub struct Rxfc {
     pub word: u32,
 }
@@ -186,7 +186,7 @@ impl Rxfc {
 }
 
 // Rx buffers, whose count is a number of its own: start.
-#[derive(Drop)]
+#[derive(Clone, Copy)]
 pub struct Rxbc {
     pub word: u32,
 }
@@ -225,7 +225,7 @@ impl Rxbc {
 }
 
 // Size codes of Rx elements: buffers, FIFO 1 and FIFO 0.
-#[derive(Drop)]
+#[derive(Clone, Copy)]
 pub struct Rxesc {
     pub word: u32,
 }
@@ -282,7 +282,7 @@ impl Rxesc {
 }
 
 // Tx events: watermark, count and start.
-#[derive(Drop)]
+#[derive(Clone, Copy)]
 pub struct Txefc {
     pub word: u32,
 }
@@ -345,7 +345,7 @@ impl Txefc {
 }
 
 // Tx buffers: queue, shared, dedicated and start.
-#[derive(Drop)]
+#[derive(Clone, Copy)]
 pub struct Txbc {
     pub word: u32,
 }
@@ -417,7 +417,7 @@ impl Txbc {
 }
 
 // Size code of Tx elements.
-#[derive(Drop)]
+#[derive(Clone, Copy)]
 pub struct Txesc {
     pub word: u32,
 }
@@ -454,7 +454,7 @@ impl Txesc {
 }
 
 // What becomes of frames that no filter matches, and of remote ones, by 11 and 29 bits.
-#[derive(Drop)]
+#[derive(Clone, Copy)]
 pub struct Gfc {
     pub word: u32,
 }
@@ -524,7 +524,7 @@ impl Gfc {
 }
 
 // The mask of 29-bit identifiers.
-#[derive(Drop)]
+#[derive(Clone, Copy)]
 pub struct Xidam {
     pub word: u32,
 }

@@ -1,4 +1,6 @@
 // The registers that a start is given.
+#![tactic(auto)]
+
 pub mod kinds;
 
 ghost use Rattle.std.specs.Prelude.{◌≡◌, ◌≤◌, ◌<◌, length, get_or};
@@ -8,7 +10,7 @@ ghost use Rattle.registers.specs.Given.{all_named, registers_from, reset_registe
 use crate::kinds::{Gfc, Rxbc, Rxesc, Rxfc, Sidfc, Txbc, Txefc, Txesc, Xidam, Xidfc};
 
 // The eleven registers, the number of Rx buffers, whether FD and the rate switch are on, and the memory's length.
-#[derive(Drop)]
+#[derive(Clone, Copy)]
 pub struct Registers {
     pub sidfc: Sidfc,
     pub xidfc: Xidfc,

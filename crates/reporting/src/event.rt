@@ -18,7 +18,7 @@ use frame::Frame;
 use places::{Area, Slot, place_in};
 use registers::Registers;
 
-#[derive(Drop)]
+#[derive(Clone, Copy)]
 pub struct AfterEvent {
     pub state: State,
     pub recorded: Record,

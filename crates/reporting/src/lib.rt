@@ -1,4 +1,6 @@
 // Call 11, report sent.
+#![tactic(auto)]
+
 mod event;
 mod judging;
 pub mod report;

@@ -16,7 +16,7 @@ use engine::state::{Record, State};
 use ring::Ring;
 use words::bits32;
 
-#[derive(Drop)]
+#[derive(Clone, Copy)]
 pub struct AfterReport {
     pub reply: Reply,
     pub state: State,

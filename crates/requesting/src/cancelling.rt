@@ -11,7 +11,7 @@ use engine::refusals::{Judged, Reply};
 use engine::state::{Record, State};
 use words::bits32;
 
-#[derive(Drop)]
+#[derive(Clone, Copy)]
 pub struct AfterCancel {
     pub reply: Reply,
     pub state: State,

@@ -20,14 +20,14 @@ use places::{Area, place_in};
 use ring::Ring;
 use words::bits32;
 
-#[derive(Drop)]
+#[derive(Clone, Copy)]
 pub enum Requested {
     // the buffer's number
     Buffer(u32),
     Refused(Refusal),
 }
 
-#[derive(Drop)]
+#[derive(Clone, Copy)]
 pub struct AfterRequest {
     pub answer: Requested,
     pub state: State,

@@ -1,9 +1,11 @@
 // Places in a circle: which is the oldest held, and how many are held. The size is the caller's, 0 included.
+#![tactic(auto)]
+
 ghost use Rattle.std.specs.Prelude.{◌≡◌, true, ◌+◌, ◌%◌, ◌≤◌, ◌<◌, max};
 ghost use Rattle.ring.specs.Rings.{Fit, none_held, fits, place_after, put_place, pushed, overwritten};
 ghost use Rattle.ring.specs.Rings.{age, held, released_through};
 
-#[derive(Drop)]
+#[derive(Clone, Copy)]
 pub struct Ring {
     pub oldest: u32,
     pub fill: u32,

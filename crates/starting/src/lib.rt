@@ -1,4 +1,6 @@
 // Call 1, start.
+#![tactic(auto)]
+
 ghost use Rattle.std.specs.Prelude.{◌≡◌};
 ghost use Rattle.shape.specs.Calls.{outcome};
 ghost use Rattle.layout.specs.Verdict.{meaning};
@@ -11,7 +13,7 @@ use layout::sections::Section;
 use registers::Registers;
 
 // The verdict with the seven sections where it accepts, and the state and record after it.
-#[derive(Drop)]
+#[derive(Clone, Copy)]
 pub struct Started {
     pub verdict: Verdict,
     pub sections: [Section; 7],

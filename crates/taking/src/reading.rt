@@ -17,7 +17,7 @@ use engine::refusals::{Judged, Refusal, judge_output};
 use engine::state::{Record, State};
 use places::{Area, place_in};
 
-#[derive(Drop)]
+#[derive(Clone, Copy)]
 pub enum ReadAnswer {
     Read(RxRead),
     Refused(Refusal),

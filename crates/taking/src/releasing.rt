@@ -13,7 +13,7 @@ use engine::refusals::{Judged, Reply};
 use engine::state::{Record, State};
 use words::bits64;
 
-#[derive(Drop)]
+#[derive(Clone, Copy)]
 pub struct AfterRelease {
     pub reply: Reply,
     pub state: State,

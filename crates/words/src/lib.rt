@@ -1,4 +1,6 @@
 // The vocabulary: a word's address, bits of words, and bytes in words.
+#![tactic(auto)]
+
 pub mod bits32;
 pub mod bits64;
 pub mod bytes;
@@ -7,7 +9,7 @@ ghost use Rattle.std.specs.Prelude.{◌≡◌, ◌<◌};
 ghost use Rattle.words.specs.Choice.{pick};
 
 // A word's place in the memory: no count, no place in a section, no byte address.
-#[derive(Drop)]
+#[derive(Clone, Copy)]
 pub struct WordAddress(pub u32);
 
 // Yes or no as a bit of a word: 1 where it is set.

@@ -1,0 +1,16 @@
+-- The search that is left from section i on is the whole search.
+use Prim.Native.Nat.{◌≤◌, ◌-◌}
+use mathlib.Core.Path.{◌≡◌, refl}
+use lib.ListN.{length}
+use Rattle.words.specs.Least.{least_from}
+use Rattle.words.proofs.Lowest.{look_done}
+use Rattle.layout.specs.Verdict.{past}
+use Rattle.layout.proofs.Searches.{past_found, past_on}
+use borrow.Author.Rules.{rules}
+use Rattle.layout.proofs.check.first_past.Given as goal
+
+abbrev pub invariant-loop-i : goal.invariant-loop-i
+invariant-loop-i l = (length l.s ≡ 7) × (l.i ≤ 7) × (least_from (past l.words l.s) 0 7 ≡ least_from (past l.words l.s) l.i (7 - l.i))
+
+abbrev pub decreases-loop-i : goal.decreases-loop-i
+decreases-loop-i l = 7 - l.i

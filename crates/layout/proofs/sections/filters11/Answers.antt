@@ -1,0 +1,6 @@
+-- Start and count are what the register's accessors give.
+use borrow.Author.Rules.{rules}
+use Rattle.layout.proofs.sections.filters11.Goals as goal
+
+pub returns : goal.returns
+returns c = cc

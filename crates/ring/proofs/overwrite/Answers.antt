@@ -1,0 +1,6 @@
+-- The two fields of the new ring are what the call ensures and what was.
+use borrow.Author.Rules.{rules}
+use Rattle.ring.proofs.overwrite.Goals as goal
+
+pub returns : goal.returns
+returns c = cc

@@ -1,0 +1,16 @@
+-- After k turns k bytes of the words, from byte first on, stand in the output, and it is as long as before.
+use Prim.Native.Nat.{◌≤◌, ◌-◌, ◌+◌}
+use mathlib.Core.Path.{◌≡◌, refl}
+use lib.ListN.{length, length-set}
+use Rattle.words.specs.Bytes.{byte_in}
+use Rattle.words.specs.Runs.{run, splice}
+use Rattle.words.proofs.Runs.{run_none, run_turn, run_done}
+use borrow.Author.Rules.{rules}
+use Rattle.words.proofs.bytes.load_rest.Given as goal
+
+abbrev pub invariant-loop-k : goal.invariant-loop-k
+invariant-loop-k l =
+    (l.k ≤ l.n) × (l.out ≡ splice l.initial.out l.first (run (λ i. byte_in l.mem l.start (l.first + i)) 0 l.k)) × (length l.out ≡ length l.initial.out)
+
+abbrev pub decreases-loop-k : goal.decreases-loop-k
+decreases-loop-k l = l.n - l.k

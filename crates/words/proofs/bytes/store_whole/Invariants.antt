@@ -1,0 +1,16 @@
+-- After k turns the first k words of the data stand in the memory, and it is as long as before.
+use Prim.Native.Nat.{◌≤◌, ◌-◌}
+use mathlib.Core.Path.{◌≡◌, refl}
+use lib.ListN.{length, length-set}
+use Rattle.words.specs.Bytes.{word_of}
+use Rattle.words.specs.Runs.{run, splice}
+use Rattle.words.proofs.Runs.{run_none, run_turn, run_done}
+use borrow.Author.Rules.{rules}
+use Rattle.words.proofs.bytes.store_whole.Given as goal
+
+abbrev pub invariant-loop-k : goal.invariant-loop-k
+invariant-loop-k l =
+    (l.k ≤ l.n) × (l.mem ≡ splice l.initial.mem l.start (run (word_of l.bytes) 0 l.k)) × (length l.mem ≡ length l.initial.mem)
+
+abbrev pub decreases-loop-k : goal.decreases-loop-k
+decreases-loop-k l = l.n - l.k
