@@ -1,3 +1,1 @@
 pub mod Raised
-pub mod Stepping
-pub mod Walking

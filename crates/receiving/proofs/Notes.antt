@@ -7,8 +7,6 @@ use mathlib.Core.List.{[], ◌∷◌}
 use borrow.Author.Tests.{not-true, not-false}
 use native.Mathlib.Omega.{arith}
 use lib.Dec.{eqb}
-use types.Run.{OneOf, miss}
-use denote.Enum.Declared.{tag_of}
 use Rattle.words.proofs.Choices.{pick_first, pick_second}
 use Rattle.places.specs.declared.Slot.{Slot}
 use Rattle.places.specs.declared.Slot.TheVariants.{At, Lost}
@@ -17,7 +15,6 @@ use Rattle.element.specs.declared.Arrival.{Arrival}
 use Rattle.filter.specs.Destination.{reason}
 use Rattle.filter.specs.declared.Reason.{Reason}
 use Rattle.filter.specs.declared.Reason.TheVariants.{Remote, Reject, NoMatch, PriorityOnly, Debug, Misfiled, Locked}
-use Rattle.filter.specs.contracts.Reason.{the_type}
 use Rattle.engine.specs.Flags.{raised, with_priority, priority_word}
 use Rattle.engine.specs.declared.state.Record.{Record}
 use Rattle.receiving.specs.Needs.{Notable, SlotNotable}
@@ -58,14 +55,14 @@ module _ (r : Record) (a : Arrival) (why : Reason) where
   drop_marked e n q = q ∙ rw e
 
   -- every other reason
-  pub drop_plain : OneOf (0 ∷ 1 ∷ 2 ∷ 4 ∷ 5 ∷ 6 ∷ []) (tag_of the_type why) → r ≡ drop_noted r a (reason why)
+  pub drop_plain : (why ≡ PriorityOnly → ⊥) → r ≡ drop_noted r a (reason why)
   drop_plain k = sym (pick_second (prioritised r a 0 0) r (other why k))
     where
-      other : (x : Reason) → OneOf (0 ∷ 1 ∷ 2 ∷ 4 ∷ 5 ∷ 6 ∷ []) (tag_of the_type x) → eqb (reason x) 3 ≡ false
+      other : (x : Reason) → (x ≡ PriorityOnly → ⊥) → eqb (reason x) 3 ≡ false
       other Remote k = refl
       other Reject k = refl
       other NoMatch k = refl
-      other PriorityOnly k = absurd (miss (0 ∷ 1 ∷ 2 ∷ 4 ∷ 5 ∷ 6 ∷ []) 3 tt k)
+      other PriorityOnly k = absurd (k refl)
       other Debug k = refl
       other Misfiled k = refl
       other Locked k = refl

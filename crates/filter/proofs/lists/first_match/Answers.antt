@@ -11,8 +11,8 @@ loop-i-init c = search (turns, rules)
 pub returns-then-matches_at : goal.returns-then-matches_at
 returns-then-matches_at c = search (turns, rules)
 
-pub loop-i-smaller : goal.loop-i-smaller
-loop-i-smaller c = search (turns, rules)
+pub loop-i-preserved : goal.loop-i-preserved
+loop-i-preserved c = search (turns, rules)
 
 pub returns : goal.returns
 returns c = search (turns, rules)
