@@ -9,15 +9,12 @@ use Rattle.registers.specs.Given.{registers_from}
 use Rattle.registers.specs.declared.Registers.{Registers}
 use Rattle.printout.specs.Input.{number, bench_words, registers_of}
 use borrow.Author.Rules.{rules}
-use Rattle.printout.proofs.reading.registers.Statement.{statement}
-use Rattle.printout.proofs.reading.registers.Tie as tie
+use Rattle.printout.proofs.reading.registers.Goals as goal
 
 by_line : (s ws : List ℕ) (r : Registers) → ws ≡ run (number s) 0 12
     → r ≡ registers_from (λ (i : ℕ). get_or ws i 0) false false bench_words → r ≡ registers_of s
 unfolding run
 by_line s ws r e h = h ∙ ap (λ (vs : List ℕ). registers_from (λ (i : ℕ). get_or vs i 0) false false bench_words) e
 
-pub registers_spec : {M : Type 1} → statement M
-registers_spec =
-    tie.close
-    (tie.spec (λ c κs. search rules) (λ c. search rules) (λ c κs. search rules) (λ c. search (by_line, rules)))
+pub returns : goal.returns
+returns c = search (by_line, rules)
