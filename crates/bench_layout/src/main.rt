@@ -1,14 +1,30 @@
 // Reads a layout's registers from standard input and prints what a start says of them.
 #![tactic(auto)]
 
-use libc::{STDIN_FILENO, STDOUT_FILENO};
+ghost use Rattle.std.specs.Prelude.{◌≡◌, ◌≤◌, length, IfOk};
 
-fn main() {
+use std::io;
+use std::io::{Read, Write};
+
+// Reads until the input is full or ends, and says how many bytes stand at its front.
+fn read_full<R: Read>(from: &mut R, input: &mut [u8]) -> io::Result<usize>
+    ensures within { IfOk result (λ n. n ≤ length input.new) }
+{
+    let mut done = 0;
+    while done < input.len() {
+        let n = from.read(&mut input[done..])?;
+        if n == 0 {
+            break;
+        }
+        done += n;
+    }
+    Ok(done)
+}
+
+fn main(rt: HostRuntime) -> io::Result<()> {
     // Longer than an input that is read, so that a byte too many is seen.
-    let mut input = io::buffer();
-    let n = io::read_full(STDIN_FILENO, &mut input);
+    let mut input = [0; 4096];
+    let n = read_full(&mut rt.reader(), &mut input)?;
     let text = printout::printout(&input[..n]);
-    let bytes = text.bytes;
-    let len = text.len;
-    io::write_all(STDOUT_FILENO, &bytes[..len]);
+    io::writer(&rt).write_all(&text.bytes[..text.len])
 }
