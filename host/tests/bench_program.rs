@@ -33,7 +33,7 @@ fn printed(program: &PathBuf, bytes: &[u8]) -> Vec<u8> {
         .stdin(Stdio::piped())
         .stdout(Stdio::piped())
         .spawn()
-        .expect("target/bin/bench_layout runs: rt check bench_layout builds it");
+        .expect("target/bin/bench_layout runs: ./bench builds it");
     child.stdin.take().unwrap().write_all(bytes).unwrap();
     child.wait_with_output().unwrap().stdout
 }

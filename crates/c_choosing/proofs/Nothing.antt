@@ -11,7 +11,7 @@ use Rattle.words.proofs.Bests.{best_wins}
 use Rattle.shape.specs.Calls.{Says, answers}
 use Rattle.shape.proofs.Calls.{call_cases}
 use Rattle.registers.specs.Fields.{tx_count}
-use Rattle.engine.specs.Calls.{World, Outcome, output_refusals}
+use Rattle.engine.specs.Calls.{Outcome, output_refusals}
 use Rattle.engine.specs.Fitness.{Sound}
 use Rattle.engine.specs.declared.state.State.{State}
 use Rattle.engine.proofs.Sounds.{sound_of}

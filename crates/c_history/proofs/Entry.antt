@@ -5,14 +5,12 @@ use mathlib.Core.Path.{◌≡◌, refl, sym, subst}
 use mathlib.Core.Bool.{Bool, true, false, not}
 use mathlib.Core.List.{List, [], ◌∷◌}
 use native.Mathlib.Omega.{arith}
-use lib.ListN.{length}
 use Rattle.words.specs.Rules.{refuse_if, first, settle}
 use Rattle.shape.specs.Calls.{Says, refuses, answers}
 use Rattle.shape.specs.Refusals.{Refusal}
 use Rattle.engine.specs.Calls.{Outcome}
 use Rattle.handler.specs.Calls.{Answer, step}
-use Rattle.c_words.specs.Words.{is_yes_no}
-use Rattle.c_entering.specs.Entering.{Lent, Returned, returned, has, entry_ruling, entering, world_of, said_in, in_words}
+use Rattle.c_entering.specs.Entering.{Lent, Returned, returned, entry_ruling, entering, world_of, said_in, in_words}
 use Rattle.c_entering.specs.EngineCalls.{start_in, start_in_words}
 use Rattle.c_calls.specs.Exported.{FromC, exported, start, receive, read_fifo, acknowledge_fifo, read_buffer}
 use Rattle.c_calls.specs.Exported.{release_buffer, request_dedicated, request_shared, cancel, ask_choice, report_sent}

@@ -1,7 +1,6 @@
 -- From C: every function is a step, its words tell the answer, and demand 3 holds of any calls. Statements only.
-use Rattle.std.specs.Prelude.{ℕ, ◌<◌, ◌≡◌, List, ◌↔◌, length}
+use Rattle.std.specs.Prelude.{◌<◌, ◌≡◌, List, ◌↔◌, length}
 use Rattle.shape.specs.Histories.{told, trace, after}
-use Rattle.engine.specs.Calls.{World}
 use Rattle.books.specs.Lists.{tally, Each}
 use Rattle.handler.specs.Calls.{step}
 use Rattle.history.specs.Demand3.{InTypes, is_started, Demand3}

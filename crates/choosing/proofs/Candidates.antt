@@ -15,7 +15,7 @@ use Rattle.words.specs.Choice.{pick}
 use Rattle.words.proofs.Bests.{best_wins, best_none, best_only}
 use Rattle.words.proofs.Choices.{and_both}
 use Rattle.ring.proofs.Holding.{oldest_held}
-use Rattle.registers.specs.Fields.{dedicated, shared, tx_count, is_queue}
+use Rattle.registers.specs.Fields.{dedicated, tx_count, is_queue}
 use Rattle.engine.specs.Buffers.{is_pending}
 use Rattle.engine.specs.Fitness.{shared_ring_size, Sound}
 use Rattle.engine.specs.declared.state.State.{State}

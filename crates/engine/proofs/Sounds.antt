@@ -26,7 +26,7 @@ use Rattle.shape.specs.Refusals.{Refusal}
 use Rattle.layout.specs.Verdict.{meaning, verdict}
 use Rattle.layout.specs.declared.check.Verdict.{Verdict}
 use Rattle.layout.proofs.Accepted.{accepted_is_legal}
-use Rattle.registers.specs.Fields.{fifo_word, fifo_size, event_size, dedicated, shared, tx_count}
+use Rattle.registers.specs.Fields.{fifo_word, fifo_size, event_size, dedicated, tx_count}
 use Rattle.engine.specs.Fitness.{registers_unfit, shared_ring_size, rings_unfit, past, bits_unfit, differs}
 use Rattle.engine.specs.Fitness.{shared_unfit, flag_fields, flags_unfit, unfit, Sound, FlagsSound}
 use Rattle.engine.specs.Needs.{SharedCan}

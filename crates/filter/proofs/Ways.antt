@@ -5,7 +5,6 @@ use mathlib.Core.Path.{◌≡◌, sym, ap, ap₂, ◌∙◌}
 use mathlib.Core.Bool.{Bool, true, false, ◌&&◌}
 use mathlib.Core.List.{List}
 use borrow.Author.Tests.{eq-eqb, ne_eqb, le-leb, lt-leb, lt-ltb, le-ltb}
-use lib.Dec.{eqb}
 use Rattle.words.specs.Fields.{bits}
 use Rattle.words.specs.Bits.{is_set}
 use Rattle.words.proofs.Choices.{pick_first, pick_second}

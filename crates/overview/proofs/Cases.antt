@@ -13,7 +13,7 @@ use Rattle.shape.proofs.Calls.{call_refused, call_done}
 use Rattle.layout.specs.Verdict.{plain}
 use Rattle.registers.specs.Fields.{fifo_word, event_size}
 use Rattle.registers.specs.Kinds.{field, rxfc_count}
-use Rattle.engine.specs.Calls.{World, world, Effect}
+use Rattle.engine.specs.Calls.{world, Effect}
 use Rattle.engine.specs.Fitness.{shared_ring_size, Sound, unfit}
 use Rattle.engine.specs.Flags.{cleared}
 use Rattle.engine.specs.declared.state.State.{State}

@@ -1,5 +1,4 @@
 -- Each constructor gives the word that its fields make.
-use borrow.Author.Rules.{rules}
 use Rattle.first_box.proofs.registers.Goals as goal
 
 pub returns : goal.returns

@@ -1,6 +1,5 @@
 -- The code has the definition's six grounds, the last with what `data_length` gives.
 use Rattle.frame.specs.Malformed.{malformed}
-use borrow.Author.Rules.{rules}
 use Rattle.frame.proofs.is_malformed.Goals as goal
 
 pub returns : goal.returns

@@ -1,6 +1,5 @@
 -- The flags with the mask set, and the priority as it was.
 use Rattle.inplace.specs.Raising.{raised_mask}
-use borrow.Author.Rules.{rules}
 use Rattle.inplace.proofs.raise_mask.Goals as goal
 
 pub returns : goal.returns

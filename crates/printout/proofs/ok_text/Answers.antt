@@ -1,10 +1,4 @@
 -- Kept in the loop: the text is the head and the first i rows, and no row is longer than 63.
-use Prim.Native.Nat.{◌≤◌, ◌-◌, ◌+◌, ◌*◌}
-use mathlib.Core.Path.{◌≡◌}
-use mathlib.Core.List.{◌++◌}
-use lib.ListN.{length}
-use Rattle.printout.specs.Content.{content}
-use Rattle.printout.specs.Printed.{rows}
 use Rattle.printout.proofs.Told.{no_rows, one_more_row, ok_told}
 use borrow.Author.Rules.{rules}
 use Rattle.printout.proofs.ok_text.Goals as goal

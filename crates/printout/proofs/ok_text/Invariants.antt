@@ -5,8 +5,6 @@ use mathlib.Core.List.{◌++◌}
 use lib.ListN.{length}
 use Rattle.printout.specs.Content.{content}
 use Rattle.printout.specs.Printed.{rows}
-use Rattle.printout.proofs.Told.{no_rows, one_more_row, ok_told}
-use borrow.Author.Rules.{rules}
 use Rattle.printout.proofs.ok_text.Given as goal
 
 abbrev pub invariant-loop-i : goal.invariant-loop-i

@@ -1,5 +1,4 @@
 -- The two fields of the new ring are what the call ensures and what was.
-use borrow.Author.Rules.{rules}
 use Rattle.ring.proofs.overwrite.Goals as goal
 
 pub returns : goal.returns

@@ -1,9 +1,6 @@
 -- The loop has put the first k words, and nothing else: what is there is the splice of a run.
-use Prim.Native.Nat.{◌≤◌, ◌-◌}
-use mathlib.Core.Path.{◌≡◌, refl}
-use lib.ListN.{length, length-set}
-use Rattle.words.specs.Runs.{run, splice}
-use Rattle.c_words.specs.Words.{word}
+use mathlib.Core.Path.{refl}
+use lib.ListN.{length-set}
 use Rattle.c_words.proofs.Spelled.{put_none, put_turn, put_done}
 use borrow.Author.Rules.{rules}
 use Rattle.c_words.proofs.buffers.put.Goals as goal

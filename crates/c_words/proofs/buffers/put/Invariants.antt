@@ -1,11 +1,9 @@
 -- The loop has put the first k words, and nothing else: what is there is the splice of a run.
 use Prim.Native.Nat.{◌≤◌, ◌-◌}
-use mathlib.Core.Path.{◌≡◌, refl}
-use lib.ListN.{length, length-set}
+use mathlib.Core.Path.{◌≡◌}
+use lib.ListN.{length}
 use Rattle.words.specs.Runs.{run, splice}
 use Rattle.c_words.specs.Words.{word}
-use Rattle.c_words.proofs.Spelled.{put_none, put_turn, put_done}
-use borrow.Author.Rules.{rules}
 use Rattle.c_words.proofs.buffers.put.Given as goal
 
 abbrev pub invariant-loop-k : goal.invariant-loop-k

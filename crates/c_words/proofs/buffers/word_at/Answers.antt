@@ -1,7 +1,6 @@
 -- Past the end of the list the word is 0 by its definition.
 use lib.ListN.{get_or-eq_default}
 use mathlib.Core.Path.{sym}
-use borrow.Author.Rules.{rules}
 use Rattle.c_words.proofs.buffers.word_at.Goals as goal
 
 pub returns-else-n-words : goal.returns-else-n-words

@@ -1,5 +1,4 @@
 -- Each word that is looked at is the one of the definition.
-use borrow.Author.Rules.{rules}
 use Rattle.c_words.proofs.frames.is_plain_frame.Goals as goal
 
 pub returns : goal.returns

@@ -1,7 +1,4 @@
 -- The pick so far is the choice among the buffers that were passed.
-use Prim.Native.Nat.{◌≤◌, ◌-◌}
-use mathlib.Core.Path.{◌≡◌}
-use Rattle.choosing.specs.Needs.{picked, choice_below}
 use Rattle.choosing.proofs.Picks.{loop_start, loop_comparable, loop_turn, loop_done}
 use borrow.Author.Rules.{rules}
 use Rattle.choosing.proofs.picking.best_buffer.Goals as goal

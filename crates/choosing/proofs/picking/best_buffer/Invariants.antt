@@ -2,8 +2,6 @@
 use Prim.Native.Nat.{◌≤◌, ◌-◌}
 use mathlib.Core.Path.{◌≡◌}
 use Rattle.choosing.specs.Needs.{picked, choice_below}
-use Rattle.choosing.proofs.Picks.{loop_start, loop_comparable, loop_turn, loop_done}
-use borrow.Author.Rules.{rules}
 use Rattle.choosing.proofs.picking.best_buffer.Given as goal
 
 abbrev pub invariant-loop-buffer : goal.invariant-loop-buffer

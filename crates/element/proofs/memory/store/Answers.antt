@@ -1,5 +1,4 @@
 -- Two stores and those of the data make the element; each leaves the length as it was.
-use mathlib.Core.Path.{◌∙◌}
 use native.Mathlib.Omega.{arith}
 use lib.ListN.{length-set}
 use Rattle.element.proofs.Storing.{element_stored}

@@ -1,10 +1,7 @@
 -- After k turns k bytes as sent, from byte first on, stand in the output, and it is as long as before.
-use Prim.Native.Nat.{◌≤◌, ◌-◌, ◌+◌}
-use mathlib.Core.Path.{◌≡◌, refl}
-use lib.ListN.{length, length-set}
-use Rattle.words.specs.Runs.{run, splice}
+use mathlib.Core.Path.{refl}
+use lib.ListN.{length-set}
 use Rattle.words.proofs.Runs.{run_none, run_turn, run_done}
-use Rattle.element.specs.Bytes.{sent_byte}
 use borrow.Author.Rules.{rules}
 use Rattle.element.proofs.memory.write_rest.Goals as goal
 

@@ -1,5 +1,4 @@
 -- The place and the bit can be looked at, and their difference is the definition.
-use borrow.Author.Rules.{rules}
 use Rattle.engine.proofs.fitness.differs_at.Goals as goal
 
 pub returns : goal.returns

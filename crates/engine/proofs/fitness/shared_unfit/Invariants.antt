@@ -1,9 +1,6 @@
 -- The loop is the search for the lowest place that differs: what is left of it is the search from the next place on.
 use Prim.Native.Nat.{◌≤◌, ◌-◌}
-use Rattle.engine.proofs.Cases.{can_look}
-use Rattle.engine.proofs.Unfitness.{Left, shared_found, shared_on, shared_none}
-use Rattle.words.proofs.Lowest.{look_start}
-use borrow.Author.Rules.{rules}
+use Rattle.engine.proofs.Unfitness.{Left}
 use Rattle.engine.proofs.fitness.shared_unfit.Given as goal
 
 abbrev pub invariant-loop-p : goal.invariant-loop-p

@@ -1,6 +1,5 @@
 -- The flags are those without the mask, and the priority is not touched.
 use Rattle.engine.specs.Flags.{cleared}
-use borrow.Author.Rules.{rules}
 use Rattle.engine.proofs.flags.clear.Goals as goal
 
 pub returns : goal.returns

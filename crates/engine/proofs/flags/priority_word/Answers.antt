@@ -1,6 +1,5 @@
 -- Four fields that do not meet, so their sum is small.
 use Rattle.engine.specs.Flags.{priority_word}
-use borrow.Author.Rules.{rules}
 use Rattle.engine.proofs.flags.priority_word.Goals as goal
 
 pub returns : goal.returns

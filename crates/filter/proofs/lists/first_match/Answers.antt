@@ -1,7 +1,5 @@
 -- The first match of the whole list is the first of what is left of it.
-use Prim.Native.Nat.{◌≤◌, ◌-◌}
-use mathlib.Core.Path.{◌≡◌}
-use Rattle.filter.proofs.Turns.{Left, turns}
+use Rattle.filter.proofs.Turns.{turns}
 use borrow.Author.Rules.{rules}
 use Rattle.filter.proofs.lists.first_match.Goals as goal
 

@@ -1,8 +1,7 @@
 -- The first match of the whole list is the first of what is left of it.
 use Prim.Native.Nat.{◌≤◌, ◌-◌}
 use mathlib.Core.Path.{◌≡◌}
-use Rattle.filter.proofs.Turns.{Left, turns}
-use borrow.Author.Rules.{rules}
+use Rattle.filter.proofs.Turns.{Left}
 use Rattle.filter.proofs.lists.first_match.Given as goal
 
 abbrev pub invariant-loop-i : goal.invariant-loop-i

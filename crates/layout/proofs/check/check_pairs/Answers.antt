@@ -1,11 +1,6 @@
 -- Kept in both loops: the search that is left, of pairs from i on and of partners from j on, is the whole one.
-use Prim.Native.Nat.{◌≤◌, ◌-◌}
-use mathlib.Core.Path.{◌≡◌, refl}
-use lib.ListN.{length}
-use Rattle.words.specs.Least.{least_from}
-use Rattle.layout.specs.Verdict.{partner, has_partner}
-use Rattle.layout.specs.declared.check.Verdict.TheVariants.{Accepted}
-use Rattle.layout.proofs.Searches.{shares_with, partner_from, partner_on, pair_found, pair_on, pair_none}
+use mathlib.Core.Path.{refl}
+use Rattle.layout.proofs.Searches.{partner_from, partner_on, pair_found, pair_on, pair_none}
 use borrow.Author.Rules.{rules}
 use Rattle.layout.proofs.check.check_pairs.Goals as goal
 

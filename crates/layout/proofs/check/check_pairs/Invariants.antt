@@ -1,12 +1,11 @@
 -- Kept in both loops: the search that is left, of pairs from i on and of partners from j on, is the whole one.
 use Prim.Native.Nat.{◌≤◌, ◌-◌}
-use mathlib.Core.Path.{◌≡◌, refl}
+use mathlib.Core.Path.{◌≡◌}
 use lib.ListN.{length}
 use Rattle.words.specs.Least.{least_from}
 use Rattle.layout.specs.Verdict.{partner, has_partner}
 use Rattle.layout.specs.declared.check.Verdict.TheVariants.{Accepted}
-use Rattle.layout.proofs.Searches.{shares_with, partner_from, partner_on, pair_found, pair_on, pair_none}
-use borrow.Author.Rules.{rules}
+use Rattle.layout.proofs.Searches.{shares_with}
 use Rattle.layout.proofs.check.check_pairs.Given as goal
 
 abbrev pub invariant-loop-j : goal.invariant-loop-j

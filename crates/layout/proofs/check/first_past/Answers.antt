@@ -1,10 +1,6 @@
 -- The search that is left from section i on is the whole search.
-use Prim.Native.Nat.{◌≤◌, ◌-◌}
-use mathlib.Core.Path.{◌≡◌, refl}
-use lib.ListN.{length}
-use Rattle.words.specs.Least.{least_from}
+use mathlib.Core.Path.{refl}
 use Rattle.words.proofs.Lowest.{look_done}
-use Rattle.layout.specs.Verdict.{past}
 use Rattle.layout.proofs.Searches.{past_found, past_on}
 use borrow.Author.Rules.{rules}
 use Rattle.layout.proofs.check.first_past.Goals as goal

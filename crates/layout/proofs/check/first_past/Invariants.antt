@@ -1,12 +1,9 @@
 -- The search that is left from section i on is the whole search.
 use Prim.Native.Nat.{◌≤◌, ◌-◌}
-use mathlib.Core.Path.{◌≡◌, refl}
+use mathlib.Core.Path.{◌≡◌}
 use lib.ListN.{length}
 use Rattle.words.specs.Least.{least_from}
-use Rattle.words.proofs.Lowest.{look_done}
 use Rattle.layout.specs.Verdict.{past}
-use Rattle.layout.proofs.Searches.{past_found, past_on}
-use borrow.Author.Rules.{rules}
 use Rattle.layout.proofs.check.first_past.Given as goal
 
 abbrev pub invariant-loop-i : goal.invariant-loop-i

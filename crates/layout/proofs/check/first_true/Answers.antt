@@ -1,9 +1,5 @@
 -- The search that is left from flag i on is the whole search.
-use Prim.Native.Nat.{◌≤◌, ◌-◌}
-use mathlib.Core.Path.{◌≡◌, refl}
-use mathlib.Core.Bool.{false}
-use lib.ListN.{length, get_or}
-use Rattle.words.specs.Least.{least_from}
+use mathlib.Core.Path.{refl}
 use Rattle.words.proofs.Lowest.{look_found, look_on, look_done}
 use borrow.Author.Rules.{rules}
 use Rattle.layout.proofs.check.first_true.Goals as goal

@@ -1,5 +1,4 @@
 -- Start and count are what the register's accessors give.
-use borrow.Author.Rules.{rules}
 use Rattle.layout.proofs.sections.events.Goals as goal
 
 pub returns : goal.returns

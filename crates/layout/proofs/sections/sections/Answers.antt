@@ -1,5 +1,4 @@
 -- Each of the seven sections is what its own function gives.
-use borrow.Author.Rules.{rules}
 use Rattle.layout.proofs.sections.sections.Goals as goal
 
 pub returns : goal.returns

@@ -1,10 +1,6 @@
 -- The search for a byte out of place that is left from k on is the whole search.
-use Prim.Native.Nat.{◌≤◌, ◌-◌}
-use mathlib.Core.Path.{◌≡◌, refl}
+use mathlib.Core.Path.{refl}
 use borrow.Author.Tests.{not-true, not-false}
-use lib.ListN.{length}
-use Rattle.words.specs.Least.{least_from}
-use Rattle.printout.specs.Input.{out_of_place, first_out}
 use Rattle.printout.proofs.Lines.{wrong_length, unread_at, in_place_on, all_in_place}
 use borrow.Author.Rules.{rules}
 use Rattle.printout.proofs.reading.is_readable.Goals as goal

@@ -3,8 +3,6 @@ use Prim.Native.Nat.{◌≤◌, ◌-◌}
 use mathlib.Core.Path.{◌≡◌}
 use lib.ListN.{length}
 use Rattle.printout.specs.Input.{number_from}
-use Rattle.printout.proofs.Lines.{read_length, number_none, number_more, number_done, shifted_fits, number_fits}
-use borrow.Author.Rules.{rules}
 use Rattle.printout.proofs.reading.number_on.Given as goal
 
 abbrev pub invariant-loop-k : goal.invariant-loop-k

@@ -1,6 +1,5 @@
 -- Each word is the number on its line, as `number_on` gives it.
 use Rattle.words.specs.Runs.{run}
-use borrow.Author.Rules.{rules}
 use Rattle.printout.proofs.reading.numbers.Goals as goal
 
 pub returns : goal.returns

@@ -1,11 +1,9 @@
 -- After k turns k bytes of the words, from byte first on, stand in the output, and it is as long as before.
 use Prim.Native.Nat.{◌≤◌, ◌-◌, ◌+◌}
-use mathlib.Core.Path.{◌≡◌, refl}
-use lib.ListN.{length, length-set}
+use mathlib.Core.Path.{◌≡◌}
+use lib.ListN.{length}
 use Rattle.words.specs.Bytes.{byte_in}
 use Rattle.words.specs.Runs.{run, splice}
-use Rattle.words.proofs.Runs.{run_none, run_turn, run_done}
-use borrow.Author.Rules.{rules}
 use Rattle.words.proofs.bytes.load_rest.Given as goal
 
 abbrev pub invariant-loop-k : goal.invariant-loop-k

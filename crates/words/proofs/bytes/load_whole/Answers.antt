@@ -1,9 +1,5 @@
 -- After k turns the bytes of the first k words stand at the front of the output, and it is as long as before.
-use Prim.Native.Nat.{◌≤◌, ◌-◌, ◌*◌}
-use mathlib.Core.Path.{◌≡◌, refl}
-use lib.ListN.{length}
-use Rattle.words.specs.Bytes.{byte_in}
-use Rattle.words.specs.Runs.{run, splice}
+use mathlib.Core.Path.{refl}
 use Rattle.words.proofs.Runs.{run_none}
 use Rattle.words.proofs.Moves.{word_loaded, words_loaded}
 use borrow.Author.Rules.{rules}

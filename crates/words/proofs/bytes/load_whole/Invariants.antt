@@ -1,12 +1,9 @@
 -- After k turns the bytes of the first k words stand at the front of the output, and it is as long as before.
 use Prim.Native.Nat.{◌≤◌, ◌-◌, ◌*◌}
-use mathlib.Core.Path.{◌≡◌, refl}
+use mathlib.Core.Path.{◌≡◌}
 use lib.ListN.{length}
 use Rattle.words.specs.Bytes.{byte_in}
 use Rattle.words.specs.Runs.{run, splice}
-use Rattle.words.proofs.Runs.{run_none}
-use Rattle.words.proofs.Moves.{word_loaded, words_loaded}
-use borrow.Author.Rules.{rules}
 use Rattle.words.proofs.bytes.load_whole.Given as goal
 
 abbrev pub invariant-loop-k : goal.invariant-loop-k

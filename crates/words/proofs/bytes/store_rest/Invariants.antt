@@ -1,11 +1,9 @@
 -- After k turns k words of the data, from word first on, stand in the memory, and it is as long as before.
 use Prim.Native.Nat.{◌≤◌, ◌-◌, ◌+◌}
-use mathlib.Core.Path.{◌≡◌, refl}
-use lib.ListN.{length, length-set}
+use mathlib.Core.Path.{◌≡◌}
+use lib.ListN.{length}
 use Rattle.words.specs.Bytes.{word_of}
 use Rattle.words.specs.Runs.{run, splice}
-use Rattle.words.proofs.Runs.{run_none, run_turn, run_done}
-use borrow.Author.Rules.{rules}
 use Rattle.words.proofs.bytes.store_rest.Given as goal
 
 abbrev pub invariant-loop-k : goal.invariant-loop-k

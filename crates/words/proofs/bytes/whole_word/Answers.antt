@@ -1,6 +1,5 @@
 -- The four bytes are there and add up to the word, and no sum wraps, since each is below 256.
 use Rattle.words.specs.Bytes.{word_of}
-use borrow.Author.Rules.{rules}
 use Rattle.words.proofs.bytes.whole_word.Goals as goal
 
 pub returns : goal.returns

@@ -1,5 +1,4 @@
 -- The empty state over the registers of these words.
-use borrow.Author.Rules.{rules}
 use Rattle.engine.proofs.state.State.never_started.Goals as goal
 
 pub returns : goal.returns

@@ -6,7 +6,6 @@ use Rattle.layout.specs.Verdict.{meaning}
 use Rattle.layout.specs.declared.check.Verdict.{Verdict}
 use Rattle.layout.specs.declared.check.Verdict.TheVariants.{Accepted, WrongMemory, UnnamedBit, CountOver, TxOver}
 use Rattle.layout.specs.declared.check.Verdict.TheVariants.{PastMemory, Overlap}
-use borrow.Author.Rules.{rules}
 use Rattle.layout.proofs.check.Verdict.accepted.Goals as goal
 
 refuses : (v : Verdict) → (v ≡ Accepted → ⊥) → false ≡ is_allowed (meaning v)

@@ -1,9 +1,4 @@
 -- Kept in the loop: the text is what it was and the first i bytes.
-use Prim.Native.Nat.{◌≤◌, ◌-◌, ◌+◌}
-use mathlib.Core.Path.{◌≡◌}
-use mathlib.Core.List.{◌++◌}
-use lib.ListN.{length, take}
-use Rattle.printout.specs.Content.{content}
 use Rattle.printout.proofs.Pushed.{none_pushed, one_more_pushed, all_pushed}
 use borrow.Author.Rules.{rules}
 use Rattle.printout.proofs.text.Text.push_all.Goals as goal

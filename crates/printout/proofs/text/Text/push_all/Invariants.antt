@@ -4,8 +4,6 @@ use mathlib.Core.Path.{◌≡◌}
 use mathlib.Core.List.{◌++◌}
 use lib.ListN.{length, take}
 use Rattle.printout.specs.Content.{content}
-use Rattle.printout.proofs.Pushed.{none_pushed, one_more_pushed, all_pushed}
-use borrow.Author.Rules.{rules}
 use Rattle.printout.proofs.text.Text.push_all.Given as goal
 
 abbrev pub invariant-loop-i : goal.invariant-loop-i

@@ -1,6 +1,5 @@
 -- The fields stand apart, so each holds its number and no other bit is set.
 use native.Mathlib.Omega.{arith}
-use borrow.Author.Rules.{rules}
 use Rattle.registers.specs.Kinds.{txbc}
 use Rattle.registers.proofs.Built.{built}
 use Rattle.registers.proofs.kinds.Txbc.new.Goals as goal
