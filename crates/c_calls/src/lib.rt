@@ -13,8 +13,7 @@ use c_receiving::{reads, receives, releases};
 use c_requesting::{cancels, event_calls, requests};
 
 // A state for which every call but a start answers 20.
-#[unsafe(no_mangle)]
-pub extern "C" fn cuongphemi_never_started(state: &mut [u32]) -> u32
+pub fn cuongphemi_never_started(state: &mut [u32]) -> u32
     ensures { returned result (lent state.new [] [] [] [])
         ≡ never_started_call (lent state.old [] [] [] []) }
 {
@@ -22,8 +21,7 @@ pub extern "C" fn cuongphemi_never_started(state: &mut [u32]) -> u32
 }
 
 // Call 1, start.
-#[unsafe(no_mangle)]
-pub extern "C" fn cuongphemi_start(
+pub fn cuongphemi_start(
     state: &mut [u32],
     recorded: &mut [u32],
     mem: &[u32],
@@ -39,8 +37,7 @@ pub extern "C" fn cuongphemi_start(
 }
 
 // Call 2, receive.
-#[unsafe(no_mangle)]
-pub extern "C" fn cuongphemi_receive(
+pub fn cuongphemi_receive(
     state: &mut [u32],
     recorded: &mut [u32],
     mem: &mut [u32],
@@ -58,8 +55,7 @@ pub extern "C" fn cuongphemi_receive(
 }
 
 // Call 3, read in a FIFO.
-#[unsafe(no_mangle)]
-pub extern "C" fn cuongphemi_read_fifo(
+pub fn cuongphemi_read_fifo(
     state: &[u32],
     recorded: &[u32],
     mem: &[u32],
@@ -78,8 +74,7 @@ pub extern "C" fn cuongphemi_read_fifo(
 }
 
 // Call 4, acknowledge in a FIFO.
-#[unsafe(no_mangle)]
-pub extern "C" fn cuongphemi_acknowledge_fifo(
+pub fn cuongphemi_acknowledge_fifo(
     state: &mut [u32],
     recorded: &[u32],
     mem: &[u32],
@@ -94,8 +89,7 @@ pub extern "C" fn cuongphemi_acknowledge_fifo(
 }
 
 // Call 5, read an Rx buffer.
-#[unsafe(no_mangle)]
-pub extern "C" fn cuongphemi_read_buffer(
+pub fn cuongphemi_read_buffer(
     state: &[u32],
     recorded: &[u32],
     mem: &[u32],
@@ -113,8 +107,7 @@ pub extern "C" fn cuongphemi_read_buffer(
 }
 
 // Call 6, release an Rx buffer.
-#[unsafe(no_mangle)]
-pub extern "C" fn cuongphemi_release_buffer(
+pub fn cuongphemi_release_buffer(
     state: &mut [u32],
     recorded: &[u32],
     mem: &[u32],
@@ -128,8 +121,7 @@ pub extern "C" fn cuongphemi_release_buffer(
 }
 
 // Call 7, request a dedicated buffer.
-#[unsafe(no_mangle)]
-pub extern "C" fn cuongphemi_request_dedicated(
+pub fn cuongphemi_request_dedicated(
     state: &mut [u32],
     recorded: &[u32],
     mem: &mut [u32],
@@ -151,8 +143,7 @@ pub extern "C" fn cuongphemi_request_dedicated(
 }
 
 // Call 8, request the shared part.
-#[unsafe(no_mangle)]
-pub extern "C" fn cuongphemi_request_shared(
+pub fn cuongphemi_request_shared(
     state: &mut [u32],
     recorded: &[u32],
     mem: &mut [u32],
@@ -171,13 +162,7 @@ pub extern "C" fn cuongphemi_request_shared(
 }
 
 // Call 9, cancel.
-#[unsafe(no_mangle)]
-pub extern "C" fn cuongphemi_cancel(
-    state: &mut [u32],
-    recorded: &mut [u32],
-    mem: &[u32],
-    buffer: u32,
-) -> u32
+pub fn cuongphemi_cancel(state: &mut [u32], recorded: &mut [u32], mem: &[u32], buffer: u32) -> u32
     ensures { returned result (lent state.new recorded.new mem.now [] [])
         ≡ exported (lent state.old recorded.old mem.now [] []) (cancel buffer) }
 {
@@ -185,8 +170,7 @@ pub extern "C" fn cuongphemi_cancel(
 }
 
 // Call 10, ask the choice.
-#[unsafe(no_mangle)]
-pub extern "C" fn cuongphemi_ask_choice(
+pub fn cuongphemi_ask_choice(
     state: &[u32],
     recorded: &[u32],
     mem: &[u32],
@@ -204,8 +188,7 @@ pub extern "C" fn cuongphemi_ask_choice(
 }
 
 // Call 11, report sent.
-#[unsafe(no_mangle)]
-pub extern "C" fn cuongphemi_report_sent(
+pub fn cuongphemi_report_sent(
     state: &mut [u32],
     recorded: &mut [u32],
     mem: &mut [u32],
@@ -221,8 +204,7 @@ pub extern "C" fn cuongphemi_report_sent(
 }
 
 // Call 12, read an event.
-#[unsafe(no_mangle)]
-pub extern "C" fn cuongphemi_read_event(
+pub fn cuongphemi_read_event(
     state: &[u32],
     recorded: &[u32],
     mem: &[u32],
@@ -238,8 +220,7 @@ pub extern "C" fn cuongphemi_read_event(
 }
 
 // Call 13, acknowledge an event.
-#[unsafe(no_mangle)]
-pub extern "C" fn cuongphemi_acknowledge_event(
+pub fn cuongphemi_acknowledge_event(
     state: &mut [u32],
     recorded: &[u32],
     mem: &[u32],
@@ -253,13 +234,7 @@ pub extern "C" fn cuongphemi_acknowledge_event(
 }
 
 // Call 14, clear flags.
-#[unsafe(no_mangle)]
-pub extern "C" fn cuongphemi_clear_flags(
-    state: &[u32],
-    recorded: &mut [u32],
-    mem: &[u32],
-    mask: u32,
-) -> u32
+pub fn cuongphemi_clear_flags(state: &[u32], recorded: &mut [u32], mem: &[u32], mask: u32) -> u32
     ensures { returned result (lent state.now recorded.new mem.now [] [])
         ≡ exported (lent state.now recorded.old mem.now [] []) (clear_flags mask) }
 {
@@ -267,13 +242,7 @@ pub extern "C" fn cuongphemi_clear_flags(
 }
 
 // Call 15, report status.
-#[unsafe(no_mangle)]
-pub extern "C" fn cuongphemi_status(
-    state: &[u32],
-    recorded: &[u32],
-    mem: &[u32],
-    answer: &mut [u32],
-) -> u32
+pub fn cuongphemi_status(state: &[u32], recorded: &[u32], mem: &[u32], answer: &mut [u32]) -> u32
     ensures { returned result
         (lent state.now recorded.now mem.now answer.new [])
         ≡ exported (lent state.now recorded.now mem.now answer.old [])

@@ -147,7 +147,9 @@ pub extern "C" fn cuongphemi_request_dedicated(
         ≡ exported (lent state.old recorded.now mem.old answer.old [])
         (request_dedicated buffer frame.now bytes.now marker wish) }
 {
-    c_calls::cuongphemi_request_dedicated(state, recorded, mem, buffer, frame, bytes, marker, wish, answer)
+    c_calls::cuongphemi_request_dedicated(
+        state, recorded, mem, buffer, frame, bytes, marker, wish, answer,
+    )
 }
 
 // Call 8, request the shared part.

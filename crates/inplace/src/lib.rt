@@ -21,24 +21,21 @@ pub fn raise_mask(r: Record, mask: u32) -> Record
 }
 
 // The same in place.
-#[unsafe(no_mangle)]
-pub extern "C" fn cuongphemi_flags_raise(recorded: &mut Record, mask: u32)
+pub fn cuongphemi_flags_raise(recorded: &mut Record, mask: u32)
     ensures { recorded.new ≡ raised_mask recorded.old mask }
 {
     *recorded = raise_mask(*recorded, mask);
 }
 
 // The flags of a mask are cleared in place; the priority stays.
-#[unsafe(no_mangle)]
-pub extern "C" fn cuongphemi_flags_clear(recorded: &mut Record, mask: u32)
+pub fn cuongphemi_flags_clear(recorded: &mut Record, mask: u32)
     ensures { recorded.new ≡ cleared recorded.old mask }
 {
     *recorded = flags::clear(*recorded, mask);
 }
 
 // The priority word is replaced in place; the flags stay.
-#[unsafe(no_mangle)]
-pub extern "C" fn cuongphemi_priority_put(recorded: &mut Record, word: u32)
+pub fn cuongphemi_priority_put(recorded: &mut Record, word: u32)
     ensures { recorded.new ≡ with_priority recorded.old word }
 {
     *recorded = flags::set_priority(*recorded, word);
@@ -61,8 +58,7 @@ pub fn without_flags(r: Record) -> Record
 }
 
 // Gives back the flags that were up, and clears them in place; the priority stays.
-#[unsafe(no_mangle)]
-pub extern "C" fn cuongphemi_flags_take(recorded: &mut Record) -> u32
+pub fn cuongphemi_flags_take(recorded: &mut Record) -> u32
     ensures { (result ≡ taken recorded.old)
         × (recorded.new ≡ without_flags recorded.old) }
 {

@@ -4,7 +4,7 @@ ghost use Rattle.printout.specs.Content.{content};
 ghost use Rattle.printout.specs.Printed.{decimal, row};
 
 // The first len bytes. The longest printout, `layout ok` and seven rows of three numbers of 20 digits, would have 451.
-#[derive(Drop)]
+#[derive(Clone, Copy)]
 pub struct Text {
     pub bytes: [u8; 512],
     pub len: usize,

@@ -11,4 +11,4 @@ pub registers-requires : goal.registers-requires
 registers-requires c = search (is_read, not-false, rules)
 
 pub returns : goal.returns
-returns c = (search (read_told, not-false, rules), search rules)
+returns c = (search (read_told, rules), search rules)

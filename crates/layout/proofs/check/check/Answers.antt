@@ -14,13 +14,13 @@ pub returns-then-over-lt7 : goal.returns-then-over-lt7
 returns-then-over-lt7 c = search (says_12, not-false, rules)
 
 pub returns-then-tx_count-gt-MOST : goal.returns-then-tx_count-gt-MOST
-returns-then-tx_count-gt-MOST c = search (says_13, not-false, rules)
+returns-then-tx_count-gt-MOST c = search (says_13, rules)
 
 pub sections-s-requires : goal.sections-s-requires
 sections-s-requires c = search (few_buffers, rules)
 
 pub returns-then-past-lt7 : goal.returns-then-past-lt7
-returns-then-past-lt7 c = search (says_14, not-false, rules)
+returns-then-past-lt7 c = search (says_14, rules)
 
 pub returns : goal.returns
-returns c = search (says_15, not-false, rules)
+returns c = search (says_15, rules)
