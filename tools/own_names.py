@@ -4,9 +4,9 @@
 usage: tools/own_names.py [--check] [FOLDER]     the top of the repository, by default the one that holds this script
 
 A name is ours where a file of specs/ or proofs/ declares it: a definition, a lemma, a field, a constructor; so is a
-variable in camel case. What begins with a capital stays, a label that Rattle makes for a function's proof too. It turns whole words, in .antt files, in what
-a .rt file says in antt and in the texts of must-fail edits; of comments only words in code spans and words in camel
-case. --check writes nothing and lists names that would fall together.
+variable in camel case. What begins with a capital stays, a label that Rattle makes for a function's proof too. It turns
+whole words, in .antt files, in what a .rt file says in antt and in the texts of must-fail edits; of comments only words
+in code spans and words in camel case. --check writes nothing and lists names that would fall together.
 """
 
 import collections
