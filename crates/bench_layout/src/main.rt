@@ -4,8 +4,9 @@
 ghost use Rattle.std.specs.Prelude.{◌≡◌, ◌≤◌, ◌<◌, length, take, IfOk};
 ghost use Rattle.std.specs.Io.KnownBytes.{Consumes, IsAtEnd};
 
+use printout::printout;
 use std::io;
-use std::io::{Read, Write};
+use std::io::Read;
 
 // Reads until the input is full or ends, and says how many bytes stand at its front: those that the reader gave.
 fn read_full<R: Read>(from: &mut R, input: &mut [u8]) -> io::Result<usize>
@@ -15,6 +16,7 @@ fn read_full<R: Read>(from: &mut R, input: &mut [u8]) -> io::Result<usize>
     ensures to_the_end { IfOk result (λ n. n < length input.new → IsAtEnd (R.remaining from.new)) }
 {
     let mut done = 0;
+    // No `for`, which would be no plainer: each read moves on as far as it comes.
     while done < input.len() {
         let n = from.read(&mut input[done..])?;
         if n == 0 {
@@ -29,6 +31,5 @@ fn main(rt: HostRuntime) -> io::Result<()> {
     // Longer than an input that is read, so that a byte too many is seen.
     let mut input = [0; 4096];
     let n = read_full(&mut rt.reader(), &mut input)?;
-    let text = printout::printout(&input[..n]);
-    io::writer(&rt).write_all(&text.bytes[..text.len])
+    print!(rt; "{}", printout(&input[..n]))
 }

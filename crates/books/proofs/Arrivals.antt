@@ -8,17 +8,17 @@ use native.Mathlib.Nat.{add-zero, add_comm}
 use native.Mathlib.Omega.{arith}
 use lib.ListN.{length, drop}
 use borrow.Author.Tests.{eq-eqb, ne_eqb}
+use Rattle.std.proofs.Common.{Some, None}
 use Rattle.words.specs.Ranges.{OnlyIn}
 use Rattle.words.specs.Runs.{splice}
 use Rattle.words.proofs.Ranges.{only_none}
 use Rattle.ring.specs.Rings.{place_after, put_place, overwritten, released}
 use Rattle.ring.specs.declared.Ring.{Ring}
-use Rattle.ring.proofs.Circle.{place_lt, place_released, place_overwritten, put_full}
+use Rattle.ring.proofs.Places.{place_lt, place_released, place_overwritten, put_full}
 use Rattle.ring.proofs.Moves.{place_pushed}
 use Rattle.places.specs.Areas.{area_range, place_in}
 use Rattle.places.specs.Slots.{take_rule, slot_memory}
 use Rattle.places.specs.declared.Area.{Area}
-use Rattle.places.specs.declared.Slot.TheVariants.{At, Lost}
 use Rattle.places.proofs.Stores.{store_kept}
 use Rattle.places.proofs.Takes.{take_cases}
 use Rattle.books.specs.Ledgers.{Ledger, new_entry, is_full, is_blocking, note_arrival}
@@ -39,11 +39,11 @@ arrival_keeps a q mem room fit o ws w =
     (λ m z b. store_kept a mem room q.oldest (omega (arith, fit.place)) ws w)
 
 module _ (size : ℕ) (o : Bool) (l : Ledger) where
-  expect_lost : is_full size l ≡ true → is_blocking size o ≡ true → expect_slot size o l ≡ Lost
+  expect_lost : is_full size l ≡ true → is_blocking size o ≡ true → expect_slot size o l ≡ None
   unfolding expect_slot
   expect_lost f b = simp (f, b)
 
-  expect_stored : (is_full size l && is_blocking size o) ≡ false → expect_slot size o l ≡ At (expect_put size l)
+  expect_stored : (is_full size l && is_blocking size o) ≡ false → expect_slot size o l ≡ Some (expect_put size l)
   unfolding expect_slot
   expect_stored e = simp e
 
@@ -58,10 +58,10 @@ module _ (a : Area) (l : Ledger) (q : Ring) (mem : List ℕ) (h : Holds a l.held
   slot_told : PutAgrees a.count l q → (take_rule a.count o q).slot ≡ expect_slot a.count o l
   slot_told t =
       take_cases a.count o q (λ x. x.slot ≡ expect_slot a.count o l)
-      (λ m. ap At t ∙ sym (expect_stored a.count o l (rw (not_full m))))
+      (λ m. ap Some t ∙ sym (expect_stored a.count o l (rw (not_full m))))
       (λ m b. sym (expect_lost a.count o l (full_is m) b))
       (λ m z b.
-      ap At (sym (put_full q a.count h.ring (omega (arith, h.ring.room))) ∙ t)
+      ap Some (sym (put_full q a.count h.ring (omega (arith, h.ring.room))) ∙ t)
       ∙ sym (expect_stored a.count o l (rw (b, and-false))))
 
   put_after : PutAgrees a.count l q → (ws : List ℕ)
@@ -79,7 +79,7 @@ module _ (a : Area) (l : Ledger) (q : Ring) (mem : List ℕ) (h : Holds a l.held
   module _ (ws : List ℕ) (w : length ws ≡ a.each) where
     -- an overwrite is one fewer, then one more: the place that comes free is the oldest
     over : a.count ≤ q.fill → 0 < a.count
-        → Holds a (drop 1 l.held ++ new_entry l ws (At q.oldest) ∷ []) (overwritten q a.count)
+        → Holds a (drop 1 l.held ++ new_entry l ws (Some q.oldest) ∷ []) (overwritten q a.count)
         (splice mem (place_in a q.oldest) ws)
     over m z =
         let full : q.fill ≡ a.count = omega (arith, h.ring.room) in
@@ -92,7 +92,7 @@ module _ (a : Area) (l : Ledger) (q : Ring) (mem : List ℕ) (h : Holds a l.held
         rw (put, one) at
         (more_hold a (drop 1 l.held) (released q a.count 1) mem
         (fewer_hold a l.held q mem h 1 (omega arith))
-        (new_entry l ws (At q.oldest)) (omega arith) w (ap At (sym put)))
+        (new_entry l ws (Some q.oldest)) (omega arith) w (ap Some (sym put)))
 
     holds_after : let t = take_rule a.count o q in
         Holds a (note_arrival a.count l ws t.slot).held t.ring (slot_memory mem a ws t.slot)
@@ -100,7 +100,7 @@ module _ (a : Area) (l : Ledger) (q : Ring) (mem : List ℕ) (h : Holds a l.held
     holds_after =
         take_cases a.count o q
         (λ x. Holds a (note_arrival a.count l ws x.slot).held x.ring (slot_memory mem a ws x.slot))
-        (λ m. rw (not_full m) (more_hold a l.held q mem h (new_entry l ws (At (put_place q a.count))) m w refl))
+        (λ m. rw (not_full m) (more_hold a l.held q mem h (new_entry l ws (Some (put_place q a.count))) m w refl))
         (λ m b. h)
         (λ m z b. rw (full_is m) (over m z))
 

@@ -6,8 +6,7 @@ use mathlib.Core.Bool.{Bool}
 use mathlib.Core.List.{List, [], ◌∷◌, ◌++◌, append_assoc}
 use native.Mathlib.Omega.{arith}
 use lib.ListN.{length, drop, take-append-drop}
-use Rattle.places.specs.declared.Slot.{Slot}
-use Rattle.places.specs.declared.Slot.TheVariants.{At, Lost}
+use Rattle.std.proofs.Common.{Option, Some, None}
 use Rattle.books.specs.Lists.{tally, Numbered}
 use Rattle.books.specs.Ledgers.{Ledger, new_entry, given_way, note_arrival, release_oldest}
 use Rattle.books.specs.Balance.{Parted, entry_number, Balanced}
@@ -33,26 +32,26 @@ pub empty_balances : EmptyBalances
 empty_balances = record { parted = start_parted entry_number; order = omega arith }
 
 -- a new one is numbered next
-next_numbered : (l : Ledger) → Balanced l → (ws : List ℕ) (s : Slot)
+next_numbered : (l : Ledger) → Balanced l → (ws : List ℕ) (s : Option ℕ)
     → Numbered entry_number 0 (l.arrived ++ new_entry l ws s ∷ [])
 next_numbered l b ws s = numbered_snoc entry_number 0 l.arrived (new_entry l ws s) b.parted.numbered (omega arith)
 
 pub arrival_balances : ArrivalBalances
 unfolding note_arrival
-arrival_balances l b size ws (At p) =
+arrival_balances l b size ws (Some p) =
     let n : ℕ = given_way size l in
     record {
       parted =
-          parted entry_number _ _ _ _ (next_numbered l b ws (At p))
+          parted entry_number _ _ _ _ (next_numbered l b ws (Some p))
           (λ q. simp tally_append (omega (arith, b.parted.whole q, tally_cut q n l.held)));
       order =
           rw (← append_assoc, length_snoc)
-          (rising_snoc entry_number 0 (l.released ++ drop n l.held) (new_entry l ws (At p)) (length l.arrived)
+          (rising_snoc entry_number 0 (l.released ++ drop n l.held) (new_entry l ws (Some p)) (length l.arrived)
           (rising_cut entry_number 0 l.released l.held (length l.arrived) n b.order) (omega arith));
     }
-arrival_balances l b size ws Lost = record {
+arrival_balances l b size ws None = record {
   parted =
-      parted entry_number _ _ _ _ (next_numbered l b ws Lost)
+      parted entry_number _ _ _ _ (next_numbered l b ws None)
       (λ q. simp tally_append (omega (arith, b.parted.whole q)));
   order =
       let n = length l.arrived in

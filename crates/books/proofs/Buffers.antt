@@ -7,12 +7,11 @@ use mathlib.Core.List.{List, [], ◌∷◌, ◌++◌}
 use native.Mathlib.Omega.{arith}
 use lib.Dec.{eqb, ltb}
 use lib.ListN.{length, get_or}
-use borrow.Author.Tests.{ne_eqb, eqb-true, eqb-false, ltb-true, ltb-false, lt-ltb, le-ltb, not-true}
-use Rattle.words.specs.Choice.{pick}
+use borrow.Author.Tests.{ne_eqb, eqb-true, eqb-false, ltb-true, ltb-false, not-true}
 use Rattle.words.specs.Bits.{bit, is_set, with_bit, without_bit, how_many}
 use Rattle.words.specs.Runs.{splice}
-use Rattle.words.proofs.Bits.{bit_lt, bit_of_zero, set_same, set_other}
-use Rattle.words.proofs.Bits.{cleared_same, cleared_other, cleared_clear, below_power}
+use Rattle.words.proofs.BitLaws.{bit_lt, bit_of_zero, set_same, set_other}
+use Rattle.words.proofs.BitLaws.{cleared_same, cleared_other, cleared_clear, below_power}
 use Rattle.places.specs.Areas.{place_in, words_at}
 use Rattle.places.specs.declared.Area.{Area}
 use Rattle.places.proofs.Stores.{element_kept, store_there, store_other}
@@ -29,25 +28,11 @@ use Rattle.books.proofs.Lists.{each_first, each_snoc, each_map, each_unless, eac
 module _ {R : Type 0} (es : List (Accepted R)) (w : ℕ) (bits : (b : ℕ) → tally (is_buffer b) es ≡ bit w b) where
   -- a buffer has a pending request exactly where its bit is set
   told_bit : (b : ℕ) → ltb 0 (tally (is_buffer b) es) ≡ is_set w b
-  told_bit b = go (eqb (bit w b) 1) refl
-    where
-      go : (t : Bool) → eqb (bit w b) 1 ≡ t → ltb 0 (tally (is_buffer b) es) ≡ t
-      go true e = lt-ltb 0 (tally (is_buffer b) es) (omega (arith, bits b, eqb-true (bit w b) 1 e))
-      go false e = le-ltb 0 (tally (is_buffer b) es) (omega (arith, bits b, eqb-false (bit w b) 1 e, bit_lt w b))
+  told_bit b = grind (arith, bits b, bit_lt w b)
 
   put_bits : (e : Accepted R) → bit w e.buffer ≡ 0
       → (b : ℕ) → tally (is_buffer b) (es ++ e ∷ []) ≡ bit (with_bit w e.buffer) b
-  put_bits e z b = go (eqb e.buffer b) refl
-    where
-      go : (t : Bool) → eqb e.buffer b ≡ t → tally (is_buffer b) (es ++ e ∷ []) ≡ bit (with_bit w e.buffer) b
-      go true q =
-          let f : e.buffer ≡ b = eqb-true e.buffer b q in
-          let here : bit (with_bit w e.buffer) b ≡ 1
-          = ap (bit (with_bit w e.buffer)) (sym f) ∙ set_same w e.buffer in
-          rw (tally_append, tally_one, q) (omega (arith, bits b, ap (bit w) f, z, here))
-      go false q =
-          let other = set_other w e.buffer b (λ f. eqb-false e.buffer b q (sym f)) in
-          rw (tally_append, tally_one, q, other) (omega (arith, bits b))
+  put_bits e z b = grind (arith, tally_append, tally_one, bits b, set_same, set_other)
 
   clear_bits : (n : ℕ) → ((k : ℕ) → n ≤ k → bit w k ≡ 0) → (b : ℕ) → b < n
       → (k : ℕ) → tally (is_buffer k) (others (is_buffer b) es) ≡ bit (without_bit n w b) k
@@ -90,12 +75,7 @@ module _ {R : Type 0} where
       → in_buffers (e ∷ es) n ≡ suc (in_buffers es n)
   unfolding in_buffers tally
   one_in e es zero h = absurd (omega arith)
-  one_in e es (suc n) h = go (eqb e.buffer n) refl (one_in e es n)
-    where
-      go : (t : Bool) → eqb e.buffer n ≡ t → (e.buffer < n → in_buffers (e ∷ es) n ≡ suc (in_buffers es n))
-          → pick t 1 0 + tally (is_buffer n) es + in_buffers (e ∷ es) n ≡ suc (tally (is_buffer n) es + in_buffers es n)
-      go true p below = omega (arith, one_past e es n (omega (arith, eqb-true e.buffer n p)))
-      go false p below = omega (arith, below (omega (arith, eqb-false e.buffer n p)))
+  one_in e es (suc n) h = grind (arith, one_past e es n, one_in e es n)
 
   all_in : (es : List (Accepted R)) (n : ℕ) → Each (λ e. e.buffer < n) es → in_buffers es n ≡ length es
   unfolding in_buffers tally
@@ -107,12 +87,7 @@ module _ {R : Type 0} where
       → (n : ℕ) → how_many (is_set w) n ≡ in_buffers es n
   unfolding in_buffers how_many
   bits_in w es bits zero = refl
-  bits_in w es bits (suc n) = go (is_set w n) refl (bits_in w es bits n)
-    where
-      go : (t : Bool) → is_set w n ≡ t → how_many (is_set w) n ≡ in_buffers es n
-          → pick t 1 0 + how_many (is_set w) n ≡ tally (is_buffer n) es + in_buffers es n
-      go true e below = omega (arith, bits n, eqb-true (bit w n) 1 e, below)
-      go false e below = omega (arith, bits n, eqb-false (bit w n) 1 e, bit_lt w n, below)
+  bits_in w es bits (suc n) = grind (arith, bits n, bit_lt w n, bits_in w es bits n)
 
 -- ---- the buffers
 

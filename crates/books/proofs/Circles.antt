@@ -10,13 +10,13 @@ use native.Mathlib.Omega.{arith}
 use lib.Dec.{eqb, ltb, leb}
 use lib.ListN.{length, take, drop, get_or, length-drop, length-map}
 use lib.Seq.{get_or-drop}
-use borrow.Author.Tests.{eq-eqb, ne_eqb, eqb-true, eqb-false, ltb-true, ltb-false, lt-ltb, le-ltb}
+use borrow.Author.Tests.{eq-eqb, ne_eqb, ltb-true, ltb-false, lt-ltb, le-ltb}
 use borrow.Author.Tests.{le-leb, lt-leb, leb-false, not-true}
 use Rattle.words.specs.Runs.{run}
 use Rattle.words.proofs.Runs.{length_run, get_or_run, run_more, run_alike}
 use Rattle.ring.specs.Rings.{place_after, pushed, released, age, held}
 use Rattle.ring.specs.declared.Ring.{Ring}
-use Rattle.ring.proofs.Circle.{place_zero, place_released, place_injective, age_place, place_age}
+use Rattle.ring.proofs.Places.{place_zero, place_released, place_injective, age_place, place_age}
 use Rattle.ring.proofs.Fitness.{fit_none, fit_pushed, fit_released}
 use Rattle.ring.proofs.Holding.{is_held, free_not_held}
 use Rattle.ring.proofs.Moves.{place_pushed}
@@ -102,14 +102,10 @@ module _ {R : Type 0} (first size : ℕ) (l : RequestBook R) (ring : Ring) (c : 
 
   -- a pending request in a shared buffer: some are held
   some_held : (b : ℕ) → first ≤ b → 0 < tally (is_buffer b) l.pending → 0 < ring.fill
-  some_held b h y = go ring.fill refl
-    where
-      go : (k : ℕ) → ring.fill ≡ k → 0 < k
-      go zero e =
-          let none = tally_none (λ n. eqb n b) buffers
-          (each_index _ 0 buffers (λ i j. absurd (omega (arith, filled)))) in
-          absurd (omega (arith, seen b h))
-      go (suc k) e = omega arith
+  some_held b h y =
+      let none : ring.fill ≡ 0 → tally (λ n. eqb n b) buffers ≡ 0 =
+      λ e. tally_none (λ n. eqb n b) buffers (each_index _ 0 buffers (λ i j. absurd (omega (arith, filled)))) in
+      grind (arith, seen b h, none)
 
   -- the oldest is the first of them, and the only one in its buffer
   module _ (some : 0 < ring.fill) where
@@ -263,11 +259,7 @@ pub oldest_first : OldestFirst
 oldest_first R first size l ring c b h = go (ltb 0 ring.fill) refl (has_pending l b) refl
   where
     eqb_sym : (m n : ℕ) → eqb m n ≡ eqb n m
-    eqb_sym m n = same (eqb m n) refl
-      where
-        same : (t : Bool) → eqb m n ≡ t → t ≡ eqb n m
-        same true e = sym (eq-eqb n m (sym (eqb-true m n e)))
-        same false e = sym (ne_eqb n m (λ f. eqb-false m n e (sym f)))
+    eqb_sym m n = grind arith
 
     go : (t : Bool) → ltb 0 ring.fill ≡ t → (u : Bool) → has_pending l b ≡ u
         → (t && eqb b (first + ring.oldest)) ≡ (u && eqb (oldest_waiting first l) b)

@@ -9,17 +9,17 @@ use lib.Dec.{ltb}
 use lib.ListN.{length, drop, get_or, length-drop, get_or-append}
 use lib.Seq.{get_or-drop, get_or_at}
 use borrow.Author.Tests.{ltb-true, ltb-false}
+use Rattle.std.proofs.Common.{Some}
 use Rattle.words.specs.Ranges.{SameIn}
 use Rattle.words.specs.Runs.{splice}
 use Rattle.words.proofs.Ranges.{only_apart}
 use Rattle.ring.specs.Rings.{place_after, put_place, pushed, released}
 use Rattle.ring.specs.declared.Ring.{Ring}
-use Rattle.ring.proofs.Circle.{place_lt, place_released, place_injective}
+use Rattle.ring.proofs.Places.{place_lt, place_released, place_injective}
 use Rattle.ring.proofs.Fitness.{fit_none, fit_pushed, fit_released}
 use Rattle.ring.proofs.Moves.{place_pushed}
 use Rattle.places.specs.Areas.{area_range, place_in}
 use Rattle.places.specs.declared.Area.{Area}
-use Rattle.places.specs.declared.Slot.TheVariants.{At}
 use Rattle.places.proofs.Stores.{element_kept, store_there, store_other, store_kept}
 use Rattle.books.specs.Lists.{tally}
 use Rattle.books.specs.Ledgers.{Entry, no_entry}
@@ -72,7 +72,7 @@ module _ (a : Area) (es : List Entry) (q : Ring) (mem : List ℕ) (h : Holds a e
 
   -- one more, at the put place
   module _ (e : Entry) (l : q.fill < a.count) (w : length e.words ≡ a.each)
-      (s : e.slot ≡ At (put_place q a.count)) where
+      (s : e.slot ≡ Some (put_place q a.count)) where
     abbrev put : ℕ
     put = put_place q a.count
 

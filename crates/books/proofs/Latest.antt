@@ -2,17 +2,16 @@
 -- Assumes nothing.
 use Prim.Native.Nat.{ℕ, suc, ◌+◌, ◌^◌, ◌%◌, ◌≤◌, ◌<◌}
 use mathlib.Core.Path.{◌≡◌, refl, sym, ap, ◌∙◌}
-use mathlib.Core.Bool.{Bool, true, false, true≢false, not, ◌&&◌}
+use mathlib.Core.Bool.{Bool, true, false, not, ◌&&◌}
 use mathlib.Core.List.{List, [], ◌∷◌, ◌++◌}
 use native.Mathlib.Nat.{div-eq_of_lt, lt_of_lt_of_le}
 use native.Mathlib.Omega.{arith}
 use lib.Dec.{eqb, ltb, leb}
 use lib.ListN.{length}
 use lib.Pow.{pow_mono}
-use borrow.Author.Tests.{ne_eqb, eq-eqb, eqb-true, eqb-false, ltb-true, ltb-false, lt-ltb, le-leb, lt-leb}
-use Rattle.words.specs.Choice.{pick}
+use borrow.Author.Tests.{ne_eqb, eq-eqb, eqb-true, eqb-false, ltb-true, ltb-false, le-leb, lt-leb}
 use Rattle.words.specs.Bits.{bit, with_bit, without_bit}
-use Rattle.words.proofs.Bits.{bit_of_zero, set_same, set_other, cleared_same, cleared_other, cleared_clear}
+use Rattle.words.proofs.BitLaws.{bit_of_zero, set_same, set_other, cleared_same, cleared_other, cleared_clear}
 use Rattle.words.proofs.Choices.{and_both}
 use Rattle.books.specs.Lists.{tally, those, Each, Numbered}
 use Rattle.books.specs.Requests.{Accepted, RequestBook, is_buffer, accepted_in, note_request, has_pending}
@@ -27,13 +26,7 @@ tally_le : {A : Type 0} (p q : A → Bool) → ((x : A) → p x ≡ true → q x
     → tally p xs ≤ tally q xs
 unfolding tally
 tally_le p q f [] = omega arith
-tally_le p q f (x ∷ xs) = go (p x) refl (q x) refl (tally_le p q f xs)
-  where
-    go : (t : Bool) → p x ≡ t → (u : Bool) → q x ≡ u → tally p xs ≤ tally q xs
-        → pick t 1 0 + tally p xs ≤ pick u 1 0 + tally q xs
-    go true e true g ih = omega (arith, ih)
-    go true e false g ih = absurd (true≢false (sym (f x e) ∙ g))
-    go false e u g ih = omega (arith, ih)
+tally_le p q f (x ∷ xs) = grind (arith, f x, tally_le p q f xs)
 
 each_two : {A : Type 0} (P Q S : A → Type 0) (xs : List A) → ((x : A) → P x → Q x → S x) → Each P xs → Each Q xs
     → Each S xs
@@ -89,34 +82,21 @@ module _ {R : Type 0} where
         → x.number < lo → tally (is_latest all b) xs ≤ tally (is_later x) xs
     unfolding tally
     all_later x own lo [] s h = omega arith
-    all_later x own lo (y ∷ ys) s h = go (is_latest all b y) refl (all_later x own (suc lo) ys s.1 (omega arith))
-      where
-        go : (t : Bool) → is_latest all b y ≡ t → tally (is_latest all b) ys ≤ tally (is_later x) ys
-            → pick t 1 0 + tally (is_latest all b) ys ≤ pick (is_later x y) 1 0 + tally (is_later x) ys
-        go true e ih =
-            let its : y.buffer ≡ x.buffer = eqb-true y.buffer b (its_own all b y e) ∙ sym own in
-            rw (eq-eqb y.buffer x.buffer its, lt-ltb x.number y.number (omega (arith, s.0)))
-            (omega (arith, ih))
-        go false e ih = omega (arith, ih)
+    all_later x own lo (y ∷ ys) s h = grind (arith, its_own all b y, all_later x own (suc lo) ys s.1)
 
     one_latest : (lo : ℕ) (xs : List (Accepted R)) → Numbered accepted_number lo xs
         → ((q : Accepted R → Bool) → tally q xs ≤ tally q all) → tally (is_latest all b) xs ≤ 1
     unfolding tally
     one_latest lo [] s sub = omega arith
     one_latest lo (x ∷ xs) s sub =
-        go (is_latest all b x) refl (one_latest (suc lo) xs s.1 (λ q. omega (arith, sub q)))
-      where
-        go : (t : Bool) → is_latest all b x ≡ t → tally (is_latest all b) xs ≤ 1
-            → pick t 1 0 + tally (is_latest all b) xs ≤ 1
-        go true e ih =
-            let own : x.buffer ≡ b = eqb-true x.buffer b (its_own all b x e) in
-            omega (
-              arith,
-              sub (is_later x),
-              none_after all b x e,
-              all_later x own (suc lo) xs s.1 (omega (arith, s.0)),
-            )
-        go false e ih = omega (arith, ih)
+        grind (
+          arith,
+          its_own all b x,
+          none_after all b x,
+          sub (is_later x),
+          all_later x,
+          one_latest (suc lo) xs s.1 (λ q. omega (arith, sub q)),
+        )
 
   -- ---- another request comes
 
@@ -124,30 +104,11 @@ module _ {R : Type 0} where
     -- in another buffer: the latest is as it was
     latest_kept : (b : ℕ) → (e.buffer ≡ b → ⊥) → (x : Accepted R) → is_latest (all ++ e ∷ []) b x ≡ is_latest all b x
     unfolding is_latest
-    latest_kept b ne x = go (eqb x.buffer b) refl
-      where
-        go : (t : Bool) → eqb x.buffer b ≡ t
-            → (t && eqb (tally (is_later x) (all ++ e ∷ [])) 0) ≡ (t && eqb (tally (is_later x) all) 0)
-        go true y =
-            let other = ne_eqb e.buffer x.buffer (λ f. ne (f ∙ eqb-true x.buffer b y)) in
-            let none : tally (is_later x) (e ∷ []) ≡ 0 = rw (tally_one, other) refl in
-            let same : tally (is_later x) (all ++ e ∷ []) ≡ tally (is_later x) all =
-            omega (arith, tally_append (is_later x) all (e ∷ []), none) in
-            ap (λ (n : ℕ). eqb n 0) same
-        go false n = refl
+    latest_kept b ne x = grind (arith, tally_append, tally_one)
 
     -- in its own: none with a smaller number is the latest
     latest_gone : (x : Accepted R) → is_latest (all ++ e ∷ []) e.buffer x ≡ true → leb e.number x.number ≡ true
-    latest_gone x t = go (ltb x.number e.number) refl
-      where
-        go : (u : Bool) → ltb x.number e.number ≡ u → leb e.number x.number ≡ true
-        go true y =
-            let own = eqb-true x.buffer e.buffer (its_own (all ++ e ∷ []) e.buffer x t) in
-            let here : tally (is_later x) (e ∷ []) ≡ 1 =
-            rw (tally_one, eq-eqb e.buffer x.buffer (sym own), y) refl in
-            let none = none_after (all ++ e ∷ []) e.buffer x t in
-            absurd (omega (arith, here, tally_append (is_later x) all (e ∷ []), none))
-        go false n = le-leb e.number x.number (ltb-false x.number e.number n)
+    latest_gone x t = grind (arith, tally_append, tally_one, its_own (all ++ e ∷ []) e.buffer x t, none_after (all ++ e ∷ []) e.buffer x t)
 
 -- no bit is set past a word's width
 bit_past : (w n k : ℕ) → w < 2 ^ n → n ≤ k → bit w k ≡ 0

@@ -5,9 +5,8 @@ use mathlib.Core.Path.{◌≡◌, refl, sym, ap, ◌∙◌}
 use mathlib.Core.Bool.{Bool, true, false, not}
 use mathlib.Core.List.{List, [], ◌∷◌, ◌++◌, map}
 use native.Mathlib.Omega.{arith}
-use lib.Dec.{eqb}
 use lib.ListN.{length, take, drop, get_or, take-append-drop}
-use borrow.Author.Tests.{ne_eqb, eqb-true, eqb-false}
+use borrow.Author.Tests.{ne_eqb}
 use Rattle.words.specs.Choice.{pick}
 use Rattle.books.specs.Lists.{tally, those, others, Each, is_number, Numbered, Rising}
 
@@ -62,22 +61,12 @@ module _ {A : Type 0} where
     pub those_append : (xs ys : List A) → those q (xs ++ ys) ≡ those q xs ++ those q ys
     unfolding those
     those_append [] ys = refl
-    those_append (x ∷ xs) ys = go (q x) (those_append xs ys)
-      where
-        go : (b : Bool) → those q (xs ++ ys) ≡ those q xs ++ those q ys
-            → pick b (x ∷ those q (xs ++ ys)) (those q (xs ++ ys)) ≡ pick b (x ∷ those q xs) (those q xs) ++ those q ys
-        go true ih = ap (λ (r : List A). x ∷ r) ih
-        go false ih = ih
+    those_append (x ∷ xs) ys = grind (arith, those_append xs ys)
 
     pub length_those : (xs : List A) → length (those q xs) ≡ tally q xs
     unfolding tally those
     length_those [] = refl
-    length_those (x ∷ xs) = go (q x) (length_those xs)
-      where
-        go : (b : Bool) → length (those q xs) ≡ tally q xs
-            → length (pick b (x ∷ those q xs) (those q xs)) ≡ pick b 1 0 + tally q xs
-        go true ih = omega arith
-        go false ih = omega arith
+    length_those (x ∷ xs) = grind (arith, length_those xs)
 
     pub those_all : (xs : List A) → Each (λ x. q x ≡ true) xs → those q xs ≡ xs
     unfolding those
@@ -99,32 +88,19 @@ module _ {A : Type 0} where
     pub each_passes : (xs : List A) → Each (λ x. q x ≡ true) (those q xs)
     unfolding those
     each_passes [] = tt
-    each_passes (x ∷ xs) = go (q x) refl (each_passes xs)
-      where
-        go : (b : Bool) → q x ≡ b → Each (λ x. q x ≡ true) (those q xs)
-            → Each (λ x. q x ≡ true) (pick b (x ∷ those q xs) (those q xs))
-        go true e ih = (e, ih)
-        go false e ih = ih
+    each_passes (x ∷ xs) = grind (arith, each_passes xs)
 
     pub each_those : (P : A → Type 0) (xs : List A) → Each P xs → Each P (those q xs)
     unfolding those
     each_those P [] e = tt
-    each_those P (x ∷ xs) e = go (q x) (each_those P xs e.1)
-      where
-        go : (b : Bool) → Each P (those q xs) → Each P (pick b (x ∷ those q xs) (those q xs))
-        go true ih = (e.0, ih)
-        go false ih = ih
+    each_those P (x ∷ xs) e = grind (arith, each_those P xs)
 
     -- where none passes, what follows for those that do not
     pub each_unless : (P Q : A → Type 0) (xs : List A) → tally q xs ≡ 0
         → ((x : A) → q x ≡ false → P x → Q x) → Each P xs → Each Q xs
     unfolding tally
     each_unless P Q [] z f e = tt
-    each_unless P Q (x ∷ xs) z f e = go (q x) refl (each_unless P Q xs (omega arith) f e.1)
-      where
-        go : (b : Bool) → q x ≡ b → Each Q xs → Q x × Each Q xs
-        go true y ih = absurd (omega (arith, ap (λ (b : Bool). pick {A = ℕ} b 1 0) y))
-        go false n ih = (f x n e.0, ih)
+    each_unless P Q (x ∷ xs) z f e = grind (arith, each_unless P Q xs)
 
   -- ---- two tests
 
@@ -132,25 +108,12 @@ module _ {A : Type 0} where
     pub tally_split : (xs : List A) → tally q (those p xs) + tally q (others p xs) ≡ tally q xs
     unfolding tally those
     tally_split [] = refl
-    tally_split (x ∷ xs) = go (p x) (tally_split xs)
-      where
-        go : (b : Bool) → tally q (those p xs) + tally q (others p xs) ≡ tally q xs
-            → tally q (pick b (x ∷ those p xs) (those p xs)) + tally q (pick (not b) (x ∷ others p xs) (others p xs))
-            ≡ pick (q x) 1 0 + tally q xs
-        go true ih = omega arith
-        go false ih = omega arith
+    tally_split (x ∷ xs) = grind (arith, tally_split xs)
 
     pub those_those : (xs : List A) → those q (those p xs) ≡ those p (those q xs)
     unfolding those
     those_those [] = refl
-    those_those (x ∷ xs) = go (q x) (p x) refl refl (those_those xs)
-      where
-        go : (b c : Bool) → q x ≡ b → p x ≡ c → those q (those p xs) ≡ those p (those q xs)
-            → those q (pick c (x ∷ those p xs) (those p xs)) ≡ those p (pick b (x ∷ those q xs) (those q xs))
-        go true true e f ih = rw (e, f) (ap (λ (r : List A). x ∷ r) ih)
-        go true false e f ih = rw f ih
-        go false true e f ih = rw e ih
-        go false false e f ih = ih
+    those_those (x ∷ xs) = grind (arith, those_those xs)
 
   -- none that passes p passes q
   module _ (q p : A → Bool) (apart : (x : A) → p x ≡ true → q x ≡ false) (xs : List A) where
@@ -221,14 +184,7 @@ module _ {A : Type 0} (number : A → ℕ) where
       → tally (is_number number n) xs ≡ 1
   unfolding tally
   numbered_once lo [] n s h l = absurd (omega arith)
-  numbered_once lo (x ∷ xs) n s h l = go (eqb (number x) n) refl (numbered_once (suc lo) xs n s.1)
-    where
-      go : (b : Bool) → eqb (number x) n ≡ b → (suc lo ≤ n → n < suc lo + length xs → tally (is_number number n) xs ≡ 1)
-          → pick (eqb (number x) n) 1 0 + tally (is_number number n) xs ≡ 1
-      go true e ih = rw e (omega (arith, numbered_below (suc lo) xs n s.1 (omega (arith, eqb-true (number x) n e))))
-      go false e ih =
-          let ne : ¬ (number x ≡ n) = eqb-false (number x) n e in
-          rw e (omega (arith, ih (omega arith) (omega arith)))
+  numbered_once lo (x ∷ xs) n s h l = grind (arith, numbered_once (suc lo) xs n s.1, numbered_below (suc lo) xs n s.1)
 
   pub rising_snoc : (lo : ℕ) (xs : List A) (x : A) (hi : ℕ) → Rising number lo xs hi → hi ≤ number x
       → Rising number lo (xs ++ x ∷ []) (suc (number x))

@@ -10,7 +10,7 @@ use borrow.Author.Tests.{eq-eqb, ne_eqb}
 use Rattle.words.specs.Choice.{pick}
 use Rattle.ring.specs.Rings.{place_after, age, held}
 use Rattle.ring.specs.declared.Ring.{Ring}
-use Rattle.ring.proofs.Circle.{place_age, place_injective}
+use Rattle.ring.proofs.Places.{place_age, place_injective}
 use Rattle.ring.proofs.Holding.{held_inside, held_age}
 use Rattle.places.specs.declared.Area.{Area}
 use Rattle.books.specs.Ledgers.{Entry, no_entry, is_at, among, entry_at, reaching}
@@ -44,7 +44,7 @@ module _ (p : ℕ) where
   among_none : (es : List Entry) → ((i : ℕ) → i < length es → IsAt p i es false) → among p es ≡ false
   unfolding among
   among_none [] n = refl
-  among_none (e ∷ es) n = rw (n 0 (omega arith)) (among_none es (λ i h. n (suc i) (omega arith)))
+  among_none (e ∷ es) n = grind (arith, n 0, among_none es (λ i h. n (suc i) (omega arith)))
 
   reaching_none : (es : List Entry) → ((i : ℕ) → i < length es → IsAt p i es false) → reaching p es ≡ 0
   unfolding reaching

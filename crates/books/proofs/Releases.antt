@@ -8,7 +8,7 @@ use native.Mathlib.Omega.{arith}
 use borrow.Author.Tests.{eqb-true}
 use Rattle.ring.specs.Rings.{place_after, age, held, released_through}
 use Rattle.ring.specs.declared.Ring.{Ring}
-use Rattle.ring.proofs.Circle.{released_through_is, place_released_through}
+use Rattle.ring.proofs.Places.{released_through_is, place_released_through}
 use Rattle.ring.proofs.Holding.{held_inside, held_age, held_place, same_test}
 use Rattle.places.specs.declared.Area.{Area}
 use Rattle.books.specs.Ledgers.{Ledger, is_at, is_held_at, reaching, release_oldest, note_release}

@@ -6,7 +6,7 @@ use native.Mathlib.Nat.{mod-add-mod, add-mod_right}
 use native.Mathlib.Omega.{arith}
 use Rattle.ring.specs.Rings.{Fit, place_after, put_place}
 use Rattle.ring.specs.declared.Ring.{Ring}
-use Rattle.ring.proofs.Circle.{place_zero, place_round, place_released}
+use Rattle.ring.proofs.Places.{place_zero, place_round, place_released}
 
 -- the place after one that is n in turn is n + 1 in turn
 pub next_in_turn : (q : Ring) (size i n : ℕ) → place_after q size i ≡ n % size

@@ -1,15 +1,13 @@
 -- The history's own book of one ring of elements: kept from calls and answers alone.
-use Rattle.std.specs.Prelude.{ℕ, suc, ◌-◌, ◌%◌, Bool, true, false, not, ◌&&◌, ◌||◌, List, [], ◌∷◌, ◌++◌, eqb, length, take, drop}
+use Rattle.std.specs.Prelude.{ℕ, suc, ◌-◌, ◌%◌, Bool, true, false, not, ◌&&◌, ◌||◌, List, [], ◌∷◌, ◌++◌, eqb, length, take, drop, Option, Some, None}
 use Rattle.words.specs.Choice.{pick}
-use Rattle.places.specs.declared.Slot.{Slot}
-use Rattle.places.specs.declared.Slot.TheVariants.{At, Lost}
 use Rattle.books.specs.Lists.{tally}
 
--- one that arrived: its number, the words of its element, and the slot that the answer named
+-- one that arrived: its number, the words of its element, and the place that the answer named, None where it was lost
 pub record Entry : Type 0 where
   pub number : ℕ
   pub words : List ℕ
-  pub slot : Slot
+  pub slot : Option ℕ
 
 -- all that arrived, in order, and what became of them
 pub record Ledger : Type 0 where
@@ -23,21 +21,21 @@ empty_ledger = record { arrived = []; released = []; held = []; lost = [] }
 
 -- what stands for an entry past the end of a list
 abbrev pub no_entry : Entry
-no_entry = record { number = 0; words = []; slot = Lost }
+no_entry = record { number = 0; words = []; slot = None }
 
 -- arrivals are numbered from 0
-abbrev pub new_entry : Ledger → List ℕ → Slot → Entry
+abbrev pub new_entry : Ledger → List ℕ → Option ℕ → Entry
 new_entry l ws s = record { number = length l.arrived; words = ws; slot = s }
 
 -- ---- places
 
-abbrev pub is_stored : Slot → Bool
-is_stored (At r) = true
-is_stored Lost = false
+abbrev pub is_stored : Option ℕ → Bool
+is_stored (Some r) = true
+is_stored None = false
 
-abbrev pub is_at : ℕ → Slot → Bool
-is_at p (At r) = eqb r p
-is_at p Lost = false
+abbrev pub is_at : ℕ → Option ℕ → Bool
+is_at p (Some r) = eqb r p
+is_at p None = false
 
 -- is one at place p among these?
 unfoldable pub among : ℕ → List Entry → Bool
@@ -62,18 +60,18 @@ abbrev pub given_way : ℕ → Ledger → ℕ
 given_way size l = pick (is_full size l) 1 0
 
 -- a new one that is stored is held, the youngest, and an oldest that gave way to it is lost; or the new one is lost
-unfoldable pub note_arrival : ℕ → Ledger → List ℕ → Slot → Ledger
-note_arrival size l ws (At p) = record {
-  arrived = l.arrived ++ new_entry l ws (At p) ∷ [];
+unfoldable pub note_arrival : ℕ → Ledger → List ℕ → Option ℕ → Ledger
+note_arrival size l ws (Some p) = record {
+  arrived = l.arrived ++ new_entry l ws (Some p) ∷ [];
   released = l.released;
-  held = drop (given_way size l) l.held ++ new_entry l ws (At p) ∷ [];
+  held = drop (given_way size l) l.held ++ new_entry l ws (Some p) ∷ [];
   lost = l.lost ++ take (given_way size l) l.held;
 }
-note_arrival size l ws Lost = record {
-  arrived = l.arrived ++ new_entry l ws Lost ∷ [];
+note_arrival size l ws None = record {
+  arrived = l.arrived ++ new_entry l ws None ∷ [];
   released = l.released;
   held = l.held;
-  lost = l.lost ++ new_entry l ws Lost ∷ [];
+  lost = l.lost ++ new_entry l ws None ∷ [];
 }
 
 -- ---- an accepted acknowledge
@@ -113,5 +111,5 @@ expect_oldest size l = (stored_so_far l - length l.held) % size
 abbrev pub is_blocking : ℕ → Bool → Bool
 is_blocking size overwrites = eqb size 0 || not overwrites
 
-unfoldable pub expect_slot : ℕ → Bool → Ledger → Slot
-expect_slot size overwrites l = pick (is_full size l && is_blocking size overwrites) Lost (At (expect_put size l))
+unfoldable pub expect_slot : ℕ → Bool → Ledger → Option ℕ
+expect_slot size overwrites l = pick (is_full size l && is_blocking size overwrites) None (Some (expect_put size l))

@@ -1,5 +1,5 @@
 -- What is promised of the books: they balance, tell what the rules answer, and agree after each step. Statements only.
-use Rattle.std.specs.Prelude.{ℕ, ◌+◌, ◌-◌, ◌%◌, ◌^◌, ◌≤◌, ◌<◌, ◌≡◌, Bool, true, false, ◌&&◌, List, [], ◌∷◌, ◌++◌, eqb, ltb, length}
+use Rattle.std.specs.Prelude.{ℕ, ◌+◌, ◌-◌, ◌%◌, ◌^◌, ◌≤◌, ◌<◌, ◌≡◌, Bool, true, false, ◌&&◌, List, [], ◌∷◌, ◌++◌, eqb, ltb, length, Option}
 use Rattle.words.specs.Bits.{bit, is_set, with_bit, without_bit, how_many}
 use Rattle.words.specs.Ranges.{SameIn, OnlyIn}
 use Rattle.words.specs.Runs.{splice}
@@ -8,7 +8,6 @@ use Rattle.ring.specs.declared.Ring.{Ring}
 use Rattle.places.specs.Areas.{area_range, area_end, Apart, place_in, words_at, Roomy}
 use Rattle.places.specs.Slots.{take_rule, slot_memory}
 use Rattle.places.specs.declared.Area.{Area}
-use Rattle.places.specs.declared.Slot.{Slot}
 use Rattle.books.specs.Lists.{tally, others}
 use Rattle.books.specs.Ledgers.{Ledger, empty_ledger, is_held_at, entry_at, note_arrival, note_release}
 use Rattle.books.specs.Ledgers.{expect_oldest, expect_slot}
@@ -26,7 +25,7 @@ abbrev pub EmptyBalances : Type 0
 EmptyBalances = Balanced empty_ledger
 
 abbrev pub ArrivalBalances : Type 0
-ArrivalBalances = (l : Ledger) → Balanced l → (size : ℕ) (ws : List ℕ) (s : Slot) → Balanced (note_arrival size l ws s)
+ArrivalBalances = (l : Ledger) → Balanced l → (size : ℕ) (ws : List ℕ) (s : Option ℕ) → Balanced (note_arrival size l ws s)
 
 abbrev pub ReleaseBalances : Type 0
 ReleaseBalances = (l : Ledger) → Balanced l → (p : ℕ) → Balanced (note_release l p)

@@ -1,16 +1,15 @@
 -- That a ring of places in an area of the memory holds what the book says: so many places as the area has elements.
-use Rattle.std.specs.Prelude.{ℕ, ◌≤◌, ◌<◌, ◌≡◌, List, length, get_or}
+use Rattle.std.specs.Prelude.{ℕ, ◌≤◌, ◌<◌, ◌≡◌, List, length, get_or, Some}
 use Rattle.ring.specs.Rings.{Fit, place_after, put_place}
 use Rattle.ring.specs.declared.Ring.{Ring}
 use Rattle.places.specs.Areas.{area_end, words_at}
 use Rattle.places.specs.declared.Area.{Area}
-use Rattle.places.specs.declared.Slot.TheVariants.{At}
 use Rattle.books.specs.Ledgers.{Entry, Ledger, no_entry, expect_put}
 use Rattle.books.specs.Balance.{Balanced}
 
 -- an entry is the i-th held: its slot is i places after the oldest, and its words stand there
 pub record Stands (a : Area) (q : Ring) (mem : List ℕ) (i : ℕ) (e : Entry) : Type 0 where
-  pub named : e.slot ≡ At (place_after q a.count i)
+  pub named : e.slot ≡ Some (place_after q a.count i)
   pub there : words_at a (place_after q a.count i) mem ≡ e.words
 
 -- the ring holds these entries, the oldest first, and nothing else

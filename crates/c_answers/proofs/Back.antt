@@ -1,23 +1,15 @@
 -- Answers come back from their words: word by word by computation, frames and flags by the laws of packing.
 -- Assumes nothing.
-use Prim.Native.Nat.{ℕ, ◌+◌, ◌-◌}
-use mathlib.Core.Path.{◌≡◌, refl, ap, ◌∙◌}
-use mathlib.Core.Bool.{Bool, true, false}
-use mathlib.Core.List.{List}
-use native.Mathlib.Omega.{arith}
-use borrow.Author.Tests.{ne_eqb}
+use Rattle.std.proofs.Common.{ℕ, ◌+◌, ◌-◌, ◌≡◌, refl, ap, ◌∙◌, List, Option, Some, None, arith, ne_eqb}
 use Rattle.words.specs.Runs.{splice}
 use Rattle.words.proofs.Choices.{pick_second}
-use Rattle.frame.specs.declared.Matched.{Matched}
-use Rattle.frame.specs.declared.Matched.TheVariants.{Nothing, Filter}
 use Rattle.element.specs.declared.RxRead.{RxRead}
 use Rattle.element.specs.declared.EventHeader.{EventHeader}
 use Rattle.receiving.specs.Receive.{Fate, stored, stored_buffer, lost_to, dropped}
 use Rattle.choosing.specs.Choosing.{send}
 use Rattle.choosing.specs.declared.asking.Chosen.{Chosen}
 use Rattle.c_words.specs.Frames.{pack_frame}
-use Rattle.c_words.specs.Words.{yes_no, says_yes}
-use Rattle.c_words.proofs.Inverse.{values_come_back}
+use Rattle.c_words.proofs.Inverse.{values_come_back, yes_back}
 use Rattle.c_answers.specs.Answers.{filter_number, fate_words, read_words, chosen_words, choice_words, event_words}
 use Rattle.c_answers.specs.Answers.{overview_words}
 use Rattle.c_answers.specs.Back.{matched_in, fate_in, read_in, choice_in, event_in}
@@ -26,9 +18,9 @@ use Rattle.c_answers.specs.Promises.{AnswersComeBack}
 one_less : (i : ℕ) → i + 1 - 1 ≡ i
 one_less i = omega arith
 
-matched_back : (m : Matched) → matched_in (filter_number m) ≡ m
-matched_back Nothing = refl
-matched_back (Filter i) = pick_second _ _ (ne_eqb (i + 1) 0 (λ e. omega arith)) ∙ ap Filter (one_less i)
+matched_back : (m : Option ℕ) → matched_in (filter_number m) ≡ m
+matched_back None = refl
+matched_back (Some i) = pick_second _ _ (ne_eqb (i + 1) 0 (λ e. omega arith)) ∙ ap Some (one_less i)
 
 fate_back : (lent : List ℕ) (f : Fate) → fate_in (splice lent 0 (fate_words f)) ≡ f
 unfolding splice
@@ -37,16 +29,12 @@ fate_back lent (stored_buffer buffer i) = ap (stored_buffer buffer) (one_less i)
 fate_back lent (lost_to fifo m) = ap (lost_to fifo) (matched_back m)
 fate_back lent (dropped why m) = ap (dropped why) (matched_back m)
 
-says_back : (b : Bool) → says_yes (yes_no b) ≡ b
-says_back true = refl
-says_back false = refl
-
 read_back : (lent : List ℕ) (r : RxRead) → read_in (splice lent 0 (read_words r)) ≡ r
 unfolding splice read_words pack_frame
 read_back lent r = λ i. record {
   header = record {
     frame = values_come_back.frame r.header.frame i;
-    anmf = says_back r.header.anmf i;
+    anmf = yes_back r.header.anmf i;
     index = r.header.index;
     time = r.header.time;
   };
@@ -61,7 +49,7 @@ choice_back lent c h =
     ∙ (λ i. send (record {
       buffer = c.buffer;
       marker = c.marker;
-      wish = says_back c.wish i;
+      wish = yes_back c.wish i;
       frame = values_come_back.frame c.frame i;
       count = c.count;
     }))

@@ -1,3 +1,2 @@
-pub mod Said
-pub mod Told
+pub mod Sections
 pub mod Back

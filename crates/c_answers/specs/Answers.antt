@@ -1,11 +1,11 @@
 -- What a call says, in words: the number that it returns, and the words of its answer.
-use Rattle.std.specs.Prelude.{ℕ, ◌+◌, List, [], ◌∷◌, ◌++◌}
+use Rattle.std.specs.Prelude.{ℕ, ◌+◌, Option, Some, None, Result, Ok, Err, List, [], ◌∷◌, ◌++◌}
 use Rattle.words.specs.Runs.{splice}
 use Rattle.shape.specs.Calls.{Says, refuses, answers}
-use Rattle.frame.specs.declared.Matched.{Matched}
-use Rattle.frame.specs.declared.Matched.TheVariants.{Nothing, Filter}
 use Rattle.element.specs.declared.RxRead.{RxRead}
 use Rattle.element.specs.declared.EventHeader.{EventHeader}
+use Rattle.layout.specs.Verdict.{refusal_of}
+use Rattle.engine.specs.Answers.{number_of}
 use Rattle.receiving.specs.Receive.{Fate, stored, stored_buffer, lost_to, dropped}
 use Rattle.choosing.specs.Choosing.{Next, none, send}
 use Rattle.choosing.specs.declared.asking.Chosen.{Chosen}
@@ -13,11 +13,25 @@ use Rattle.overview.specs.declared.Overview.{Overview}
 use Rattle.overview.specs.declared.RingStatus.{RingStatus}
 use Rattle.c_words.specs.Words.{yes_no}
 use Rattle.c_words.specs.Frames.{pack_frame}
+use Rattle.c_answers.specs.declared.numbers.CRefusal.{CRefusal}
+use Rattle.c_answers.specs.declared.numbers.CRefusal.TheVariants.{WrongLength, Neither, Layout, Call}
 
 -- 0 where the call is accepted, else the refusal's number
 abbrev pub result_of : {A : Type 0} → Says A → ℕ
 result_of (refuses n) = n.number
 result_of (answers a) = 0
+
+-- what refuses a call from C, by its number
+abbrev pub code_of : CRefusal → ℕ
+code_of WrongLength = 100
+code_of Neither = 101
+code_of (Layout n) = (refusal_of n).number
+code_of (Call n) = number_of n
+
+-- what a call from C returns: 0 where it is done
+abbrev pub code : {A : Type 0} → Result A CRefusal → ℕ
+code (Ok a) = 0
+code (Err e) = code_of e
 
 -- the answer's words go to the front of those lent, and the rest stays; a refusal leaves them all
 abbrev pub told_in : {A : Type 0} → (A → List ℕ) → List ℕ → Says A → List ℕ
@@ -35,9 +49,9 @@ start_words (refuses n) sections = n.section ∷ n.other ∷ []
 start_words (answers u) sections = 7 ∷ 7 ∷ sections
 
 -- a filter element: its index + 1, 0 for none
-abbrev pub filter_number : Matched → ℕ
-filter_number Nothing = 0
-filter_number (Filter i) = i + 1
+abbrev pub filter_number : Option ℕ → ℕ
+filter_number None = 0
+filter_number (Some i) = i + 1
 
 -- call 2: the kind (1 FIFO, 2 Rx buffer, 3 lost, 4 discarded); FIFO, buffer, FIFO, reason; the place in a FIFO; the
 -- filter element

@@ -1,8 +1,6 @@
 -- An answer read back from the words in which it was told.
-use Rattle.std.specs.Prelude.{ℕ, ◌+◌, ◌-◌, List, eqb, drop}
+use Rattle.std.specs.Prelude.{ℕ, ◌+◌, ◌-◌, Option, Some, None, List, eqb, drop}
 use Rattle.words.specs.Choice.{pick}
-use Rattle.frame.specs.declared.Matched.{Matched}
-use Rattle.frame.specs.declared.Matched.TheVariants.{Nothing, Filter}
 use Rattle.element.specs.declared.RxRead.{RxRead}
 use Rattle.element.specs.declared.EventHeader.{EventHeader}
 use Rattle.receiving.specs.Receive.{Fate, stored, stored_buffer, lost_to, dropped}
@@ -13,8 +11,8 @@ use Rattle.c_words.specs.Words.{word, says_yes}
 use Rattle.c_words.specs.Frames.{unpack_frame}
 
 -- call 2
-abbrev pub matched_in : ℕ → Matched
-matched_in n = pick (eqb n 0) Nothing (Filter (n - 1))
+abbrev pub matched_in : ℕ → Option ℕ
+matched_in n = pick (eqb n 0) None (Some (n - 1))
 
 abbrev pub fate_in : List ℕ → Fate
 fate_in ws =

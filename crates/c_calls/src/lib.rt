@@ -8,6 +8,7 @@ ghost use Rattle.c_calls.specs.Exported.{exported, start, receive, read_fifo, ac
 ghost use Rattle.c_calls.specs.Exported.{release_buffer, request_dedicated, request_shared, cancel, ask_choice};
 ghost use Rattle.c_calls.specs.Exported.{report_sent, read_event, acknowledge_event, clear_flags, report_status};
 
+use c_answers::numbers::number_of;
 use c_entering::engine_calls;
 use c_receiving::{reads, receives, releases};
 use c_requesting::{cancels, event_calls, requests};
@@ -17,7 +18,7 @@ pub fn cuongphemi_never_started(state: &mut [u32]) -> u32
     ensures { returned result (lent state.new [] [] [] [])
         ≡ never_started_call (lent state.old [] [] [] []) }
 {
-    engine_calls::never_started(state)
+    number_of(engine_calls::never_started(state))
 }
 
 // Call 1, start.
@@ -33,7 +34,7 @@ pub fn cuongphemi_start(
         ≡ exported (lent state.old recorded.old mem.now answer.old [])
         (start registers.now) }
 {
-    engine_calls::start(state, recorded, mem, registers, answer)
+    number_of(engine_calls::start(state, recorded, mem, registers, answer))
 }
 
 // Call 2, receive.
@@ -51,7 +52,7 @@ pub fn cuongphemi_receive(
         ≡ exported (lent state.old recorded.old mem.old answer.old [])
         (receive frame.now bytes.now time) }
 {
-    receives::receive(state, recorded, mem, frame, bytes, time, answer)
+    number_of(receives::receive(state, recorded, mem, frame, bytes, time, answer))
 }
 
 // Call 3, read in a FIFO.
@@ -70,7 +71,7 @@ pub fn cuongphemi_read_fifo(
         (lent state.now recorded.now mem.now answer.old out.old)
         (read_fifo fifo place) }
 {
-    reads::read_fifo(state, recorded, mem, fifo, place, out, answer)
+    number_of(reads::read_fifo(state, recorded, mem, fifo, place, out, answer))
 }
 
 // Call 4, acknowledge in a FIFO.
@@ -85,7 +86,7 @@ pub fn cuongphemi_acknowledge_fifo(
         ≡ exported (lent state.old recorded.now mem.now [] [])
         (acknowledge_fifo fifo place) }
 {
-    releases::acknowledge_fifo(state, recorded, mem, fifo, place)
+    number_of(releases::acknowledge_fifo(state, recorded, mem, fifo, place))
 }
 
 // Call 5, read an Rx buffer.
@@ -103,7 +104,7 @@ pub fn cuongphemi_read_buffer(
         (lent state.now recorded.now mem.now answer.old out.old)
         (read_buffer buffer) }
 {
-    reads::read_buffer(state, recorded, mem, buffer, out, answer)
+    number_of(reads::read_buffer(state, recorded, mem, buffer, out, answer))
 }
 
 // Call 6, release an Rx buffer.
@@ -117,7 +118,7 @@ pub fn cuongphemi_release_buffer(
         ≡ exported (lent state.old recorded.now mem.now [] [])
         (release_buffer buffer) }
 {
-    releases::release_buffer(state, recorded, mem, buffer)
+    number_of(releases::release_buffer(state, recorded, mem, buffer))
 }
 
 // Call 7, request a dedicated buffer.
@@ -137,9 +138,9 @@ pub fn cuongphemi_request_dedicated(
         ≡ exported (lent state.old recorded.now mem.old answer.old [])
         (request_dedicated buffer frame.now bytes.now marker wish) }
 {
-    requests::request_dedicated(
+    number_of(requests::request_dedicated(
         state, recorded, mem, buffer, frame, bytes, marker, wish, answer,
-    )
+    ))
 }
 
 // Call 8, request the shared part.
@@ -158,7 +159,7 @@ pub fn cuongphemi_request_shared(
         ≡ exported (lent state.old recorded.now mem.old answer.old [])
         (request_shared frame.now bytes.now marker wish) }
 {
-    requests::request_shared(state, recorded, mem, frame, bytes, marker, wish, answer)
+    number_of(requests::request_shared(state, recorded, mem, frame, bytes, marker, wish, answer))
 }
 
 // Call 9, cancel.
@@ -166,7 +167,7 @@ pub fn cuongphemi_cancel(state: &mut [u32], recorded: &mut [u32], mem: &[u32], b
     ensures { returned result (lent state.new recorded.new mem.now [] [])
         ≡ exported (lent state.old recorded.old mem.now [] []) (cancel buffer) }
 {
-    cancels::cancel(state, recorded, mem, buffer)
+    number_of(cancels::cancel(state, recorded, mem, buffer))
 }
 
 // Call 10, ask the choice.
@@ -184,7 +185,7 @@ pub fn cuongphemi_ask_choice(
         (lent state.now recorded.now mem.now answer.old out.old)
         (ask_choice passive) }
 {
-    c_choosing::ask_choice(state, recorded, mem, passive, out, answer)
+    number_of(c_choosing::ask_choice(state, recorded, mem, passive, out, answer))
 }
 
 // Call 11, report sent.
@@ -200,7 +201,7 @@ pub fn cuongphemi_report_sent(
         ≡ exported (lent state.old recorded.old mem.old [] [])
         (report_sent buffer passive time) }
 {
-    c_choosing::report_sent(state, recorded, mem, buffer, passive, time)
+    number_of(c_choosing::report_sent(state, recorded, mem, buffer, passive, time))
 }
 
 // Call 12, read an event.
@@ -216,7 +217,7 @@ pub fn cuongphemi_read_event(
         ≡ exported (lent state.now recorded.now mem.now answer.old [])
         (read_event place) }
 {
-    event_calls::read_event(state, recorded, mem, place, answer)
+    number_of(event_calls::read_event(state, recorded, mem, place, answer))
 }
 
 // Call 13, acknowledge an event.
@@ -230,7 +231,7 @@ pub fn cuongphemi_acknowledge_event(
         ≡ exported (lent state.old recorded.now mem.now [] [])
         (acknowledge_event place) }
 {
-    event_calls::acknowledge_event(state, recorded, mem, place)
+    number_of(event_calls::acknowledge_event(state, recorded, mem, place))
 }
 
 // Call 14, clear flags.
@@ -238,7 +239,7 @@ pub fn cuongphemi_clear_flags(state: &[u32], recorded: &mut [u32], mem: &[u32], 
     ensures { returned result (lent state.now recorded.new mem.now [] [])
         ≡ exported (lent state.now recorded.old mem.now [] []) (clear_flags mask) }
 {
-    engine_calls::clear_flags(state, recorded, mem, mask)
+    number_of(engine_calls::clear_flags(state, recorded, mem, mask))
 }
 
 // Call 15, report status.
@@ -248,5 +249,5 @@ pub fn cuongphemi_status(state: &[u32], recorded: &[u32], mem: &[u32], answer: &
         ≡ exported (lent state.now recorded.now mem.now answer.old [])
         report_status }
 {
-    engine_calls::status(state, recorded, mem, answer)
+    number_of(engine_calls::status(state, recorded, mem, answer))
 }

@@ -1,2 +1,1 @@
-pub mod ChoosingCalls
 pub mod Nothing

@@ -1,11 +1,6 @@
 -- The buffer that is chosen is below 32.
 -- Assumes nothing.
-use Prim.Native.Nat.{ℕ, ◌<◌}
-use mathlib.Core.Path.{◌≡◌, refl}
-use mathlib.Core.Bool.{Bool}
-use mathlib.Core.List.{List, ◌++◌}
-use native.Mathlib.Omega.{arith}
-use lib.ListN.{length}
+use Rattle.std.proofs.Common.{ℕ, ◌<◌, ◌≡◌, refl, Bool, List, ◌++◌, length, arith}
 use Rattle.words.specs.Best.{Best, nobody, somebody}
 use Rattle.words.proofs.Bests.{best_wins}
 use Rattle.shape.specs.Calls.{Says, answers}
@@ -26,7 +21,7 @@ Small says = (c : Chosen) → says ≡ answers (send c) → c.buffer < 32
 module _ (s : State) (mem : List ℕ) where
   next_small : (passive : Bool) (b : Best) → ((n : ℕ) → b ≡ somebody n → n < 32)
       → Small (answers (next_of s mem passive b))
-  next_small passive nobody h c e = let z : ◌≡◌ {A = ℕ} 0 1 = cc in absurd (omega arith)
+  next_small passive nobody h c e = absurd cc
   next_small passive (somebody n) h c e = let z : n ≡ c.buffer = cc in omega (arith, h n refl)
 
   choice_small : Sound s (length mem) → (n : ℕ) → choice s mem ≡ somebody n → n < 32
@@ -43,7 +38,7 @@ unfolding chooses
 nothing_is_no_buffer w passive out =
     call_cases w out (choice_refusals w ++ output_refusals (length out)) (chooses w passive out)
     (λ (o : Outcome Next). Small o.says)
-    (λ n c e. let z : ◌≡◌ {A = ℕ} 0 1 = cc in absurd (omega arith))
+    (λ n c e. absurd cc)
     (λ e. next_small w.state w.memory passive (choice w.state w.memory)
     (choice_small w.state w.memory
     (sound_of w.state w.recorded (length w.memory) (choice_open w out e).fit)))

@@ -1,14 +1,8 @@
 -- A call from C that returns another number than 0 leaves all that was lent.
 -- Assumes nothing.
-use Prim.Native.Nat.{ℕ, ◌+◌}
-use mathlib.Core.Path.{◌≡◌, refl, ap, ◌∙◌}
-use mathlib.Core.Bool.{Bool, true, false, ◌&&◌}
-use mathlib.Core.List.{List}
-use mathlib.Core.Logic.{inl}
-use native.Mathlib.Nat.{zero-add}
-use native.Mathlib.Omega.{arith}
-use lib.ListN.{length, drop, replicate}
-use lib.Seq.{drop-append_seam}
+use Rattle.std.proofs.Common.{ℕ, ◌+◌, ◌≡◌, refl, ap, ◌∙◌, Bool, true, false, ◌&&◌, List, length, drop, replicate}
+use Rattle.std.proofs.Common.{inl, arith}
+use Rattle.std.proofs.lemmas.Slice.{drop-append-drop}
 use Rattle.words.specs.Choice.{pick}
 use Rattle.words.specs.Rules.{Ruling, allowed, refused, settle}
 use Rattle.words.specs.Runs.{splice}
@@ -21,9 +15,9 @@ use Rattle.engine.proofs.Fits.{wrong_length_is_unfit, never_started_is_unfit}
 use Rattle.starting.specs.Starting.{start}
 use Rattle.c_words.specs.States.{register_words, state_words, plain_registers, unpack_registers, unpack_state, pack_state}
 use Rattle.c_words.proofs.Inverse.{values_come_back}
-use Rattle.c_entering.specs.Entering.{Lent, lent, Returned, returned, has, entry_ruling, entering, sized, world_of}
+use Rattle.c_entering.specs.Entering.{Lent, lent, Returned, returned, has, entry_ruling, sized, world_of}
 use Rattle.c_entering.specs.Entering.{said_in, in_words}
-use Rattle.c_entering.specs.EngineCalls.{never_started_call, start_in, start_in_words, start_call}
+use Rattle.c_entering.specs.EngineCalls.{start_in, start_in_words}
 use Rattle.c_entering.specs.Promises.{Leaves, LeavesButNames}
 use Rattle.c_entering.specs.Promises.{RefusalsLeaveAll, NeverStartedLeavesAll, StartLeavesAll, RestOfAnswerStays}
 use Rattle.c_entering.specs.Promises.{NeverStartedIsUnfitInWords, ZeroedIsUnfitInWords}
@@ -50,18 +44,15 @@ module _ (l : Lent) where
   written false r z f = refl
 
 pub refusals_leave_all : RefusalsLeaveAll
-unfolding entering in_words
 refusals_leave_all A l lengths words told o =
     shut l (Leaves l) (λ n f. refl)
     (entry_ruling (sized l.state l.recorded && lengths) (plain_registers l.state && words)) (in_words l told o)
     (said l told o.world o.output o.says)
 
 pub never_started_leaves_all : NeverStartedLeavesAll
-unfolding never_started_call
 never_started_leaves_all l = written l (has l.state state_words) _ refl
 
 pub start_leaves_all : StartLeavesAll
-unfolding start_call entering start_in_words
 start_leaves_all l registers =
     let o = start (world_of l) (unpack_registers registers) in
     let lengths = sized l.state l.recorded && (has registers register_words && has l.answer 16) in
@@ -72,10 +63,9 @@ start_leaves_all l registers =
 
 past_told : (l ws : List ℕ) → drop (length ws) (splice l 0 ws) ≡ drop (length ws) l
 unfolding splice
-past_told l ws = drop-append_seam ws (drop (0 + length ws) l) ∙ ap (λ (n : ℕ). drop n l) (zero-add (length ws))
+past_told l ws = drop-append-drop (0 + length ws) l ws (length ws) (omega arith) (omega arith)
 
 pub rest_of_answer_stays : RestOfAnswerStays
-unfolding in_words
 rest_of_answer_stays A l told o a e =
     ap (λ (s : Says A). drop (length (told a)) (said_in l told o.world o.output s).lent.answer) e
     ∙ past_told l.answer (told a)
@@ -83,7 +73,6 @@ rest_of_answer_stays A l told o a e =
 -- ---- a state that was never started
 
 pub never_started_is_unfit_in_words : NeverStartedIsUnfitInWords
-unfolding never_started_call
 never_started_is_unfit_in_words l e r words = go (has l.state state_words) e
   where
     go : (b : Bool) → let made = returned 0 (lent (pack_state never_started) l.recorded l.memory l.answer l.output) in

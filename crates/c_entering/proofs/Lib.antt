@@ -1,5 +1,4 @@
-pub mod Entries
-pub mod Crossed
-pub mod Names
-pub mod EngineCalls
+pub mod Keeps
 pub mod Leaving
+pub mod Names
+pub mod Starts

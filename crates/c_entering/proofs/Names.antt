@@ -1,19 +1,12 @@
 -- The sections that a start names are told in a word: a number to 7.
 -- Assumes nothing.
-use Prim.Native.Nat.{ℕ, ◌+◌, ◌-◌, ◌≤◌}
-use mathlib.Core.Path.{◌≡◌, refl, sym, subst}
-use mathlib.Core.Bool.{Bool, true, false, not}
-use mathlib.Core.List.{List}
-use native.Mathlib.Omega.{arith}
-use borrow.Author.Tests.{ltb-true}
-use lib.Dec.{ltb}
-use lib.ListN.{get_or, length}
+use Rattle.std.proofs.Common.{ℕ, ◌+◌, ◌-◌, ◌≤◌, ◌≡◌, refl, sym, subst, Bool, true, false, not, List, ltb, get_or, length}
+use Rattle.std.proofs.Common.{arith, ltb-true}
 use Rattle.words.specs.Least.{least_from}
 use Rattle.words.specs.Rules.{Ruling, allowed, refused, refuse_if, first, ◌or_else◌}
 use Rattle.words.proofs.Lowest.{least_within}
-use Rattle.shape.specs.Calls.{Says, outcome}
+use Rattle.shape.specs.Calls.{Says, refuses, answers, outcome}
 use Rattle.shape.specs.Refusals.{Refusal, names, Refusals}
-use Rattle.shape.proofs.Calls.{call_refused, call_done}
 use Rattle.registers.specs.Fields.{memory_words, tx_count}
 use Rattle.registers.specs.Given.{all_named}
 use Rattle.registers.specs.declared.Registers.{Registers}
@@ -22,11 +15,17 @@ use Rattle.layout.specs.Verdict.{plain, wrong_memory, memory_rule, bits_rule, co
 use Rattle.layout.specs.Verdict.{shares, partner, has_partner, pair_rule, first_with, rules}
 use Rattle.layout.specs.declared.sections.Section.{Section}
 use Rattle.engine.specs.Calls.{World, Outcome}
-use Rattle.starting.specs.Starting.{unreported, start_says, starts, start}
+use Rattle.starting.specs.Starting.{unreported, starts, start}
+use Rattle.shape.proofs.Calls.{call_refused, call_done}
 use Rattle.c_answers.specs.Needs.{NamesFit}
 
 abbrev Fits : Ruling Refusal → Type 0
-Fits v = NamesFit (start_says v)
+Fits allowed = Unit {0}
+Fits (refused n) = NamesFit n
+
+abbrev Named : Says (Unit {0}) → Type 0
+Named (refuses n) = NamesFit n
+Named (answers u) = Unit {0}
 
 either : (r q : Ruling Refusal) → Fits r → Fits q → Fits (r or_else q)
 either allowed q x y = y
@@ -59,18 +58,18 @@ names_fit g words =
     (either (end_rule (memory_words g) (sections_of g)) _ (first_fits 14 (past (memory_words g) (sections_of g)))
     (either (pair_rule (sections_of g)) allowed (pair_fits (sections_of g)) tt)))))
 
-abbrev Named : Outcome (Unit {0}) → Type 0
-Named o = NamesFit o.says
-
 module _ (w : World) (g : Registers) where
   abbrev rows : Refusals
   rows = rules g (length w.memory)
 
-  start_names : (v : Ruling Refusal) → first rows ≡ v → Fits v → Named (start w g)
-  start_names allowed e h = subst Named (sym (call_done w unreported rows (starts w g) e)) tt
-  start_names (refused n) e h = subst Named (sym (call_refused w unreported rows (starts w g) n e)) h
+  start_names : (v : Ruling Refusal) → first rows ≡ v → Fits v → Named (start w g).says
+  start_names allowed e h =
+      subst (λ (o : Outcome (Unit {0})). Named o.says) (sym (call_done w unreported rows (starts w g) e)) tt
+  start_names (refused n) e h =
+      subst (λ (o : Outcome (Unit {0})). Named o.says) (sym (call_refused w unreported rows (starts w g) n e)) h
 
-  pub names_told : (says : Says (Unit {0})) (after : World) (sections : List ℕ)
-      → outcome says after sections ≡ start w g → NamesFit says
-  names_told says after sections e =
-      subst Named (sym e) (start_names (first rows) refl (names_fit g (length w.memory)))
+  pub names_told : (n : Refusal) (after : World) (sections : List ℕ) → outcome (refuses n) after sections ≡ start w g
+      → NamesFit n
+  names_told n after sections e =
+      subst (λ (o : Outcome (Unit {0})). Named o.says) (sym e)
+      (start_names (first rows) refl (names_fit g (length w.memory)))

@@ -13,7 +13,7 @@ use Rattle.c_entering.specs.Entering.{Lent, lent, Returned, returned, has, enter
 use Rattle.c_entering.specs.Entering.{world_of, leaving, in_words}
 
 -- a state for which every call but a start answers 20
-unfoldable pub never_started_call : Lent → Returned
+abbrev pub never_started_call : Lent → Returned
 never_started_call l =
     pick (has l.state state_words)
     (returned 0 (lent (pack_state never_started) l.recorded l.memory l.answer l.output))
@@ -27,20 +27,20 @@ start_in l w sections (refuses n) =
     (lent l.state l.recorded l.memory (splice l.answer 0 (start_words (refuses n) sections)) l.output)
 start_in l w sections (answers u) = returned 0 (leaving l w (start_words done sections) l.output)
 
-unfoldable pub start_in_words : Lent → Outcome (Unit {0}) → Returned
+abbrev pub start_in_words : Lent → Outcome (Unit {0}) → Returned
 start_in_words l o = start_in l o.world o.output o.says
 
 -- call 1: the old state may be any words
-unfoldable pub start_call : Lent → List ℕ → Returned
+abbrev pub start_call : Lent → List ℕ → Returned
 start_call l registers =
     entering l (sized l.state l.recorded && (has registers register_words && has l.answer 16))
     (plain_registers registers)
     (start_in_words l (start (world_of l) (unpack_registers registers)))
 
 -- call 14
-unfoldable pub clear_call : Lent → ℕ → Returned
+abbrev pub clear_call : Lent → ℕ → Returned
 clear_call l mask = crossing l true true (in_words l no_words (clear_flags (world_of l) mask))
 
 -- call 15
-unfoldable pub status_call : Lent → Returned
+abbrev pub status_call : Lent → Returned
 status_call l = crossing l (has l.answer 16) true (in_words l overview_words (report_status (world_of l)))

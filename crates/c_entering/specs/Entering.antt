@@ -1,10 +1,12 @@
 -- What is lent to a call from C, what is found against one before it begins, and a call's outcome in words.
-use Rattle.std.specs.Prelude.{ℕ, Bool, not, ◌&&◌, List, [], ◌∷◌, eqb, length}
-use Rattle.words.specs.Rules.{Ruling, refuse_if, first, settle}
+use Rattle.std.specs.Prelude.{ℕ, Bool, not, ◌&&◌, List, [], ◌∷◌, eqb, length, Result, Ok, Err}
+use Rattle.words.specs.Rules.{Ruling, allowed, refused, refuse_if, first, settle}
 use Rattle.words.specs.Runs.{splice}
 use Rattle.shape.specs.Calls.{Says, refuses, answers}
 use Rattle.engine.specs.Calls.{World, world, Outcome}
 use Rattle.c_words.specs.States.{state_words, plain_registers, unpack_state, pack_state, unpack_record, pack_record}
+use Rattle.c_answers.specs.Answers.{code_of}
+use Rattle.c_answers.specs.declared.numbers.CRefusal.{CRefusal}
 
 -- ---- what is lent, and what a call leaves
 
@@ -40,15 +42,16 @@ abbrev pub has : List ℕ → ℕ → Bool
 has ws n = eqb (length ws) n
 
 -- 100: a lent buffer that has a length of its own has another; 101: a word that says yes or no is neither
-unfoldable pub entry_ruling : Bool → Bool → Ruling ℕ
+abbrev pub entry_ruling : Bool → Bool → Ruling ℕ
 entry_ruling lengths words = first (refuse_if (not lengths) 100 ∷ refuse_if (not words) 101 ∷ [])
 
--- the number that a call from C returns at once, 0 for none
-abbrev pub entry_number : Bool → Bool → ℕ
-entry_number lengths words = settle (entry_ruling lengths words) 0 (λ n. n)
+-- what the code finds against a call from C
+abbrev pub entered : {A : Type 0} → Result A CRefusal → Ruling ℕ
+entered (Ok a) = allowed
+entered (Err e) = refused (code_of e)
 
 -- both leave all as it was; where neither is so, the call decides
-unfoldable pub entering : Lent → Bool → Bool → Returned → Returned
+abbrev pub entering : Lent → Bool → Bool → Returned → Returned
 entering l lengths words r = settle (entry_ruling lengths words) r (λ n. returned n l)
 
 -- the state and the record have their lengths
@@ -77,5 +80,5 @@ abbrev pub said_in : {A : Type 0} → Lent → (A → List ℕ) → World → Li
 said_in l words w out (refuses n) = returned n.number l
 said_in l words w out (answers a) = returned 0 (leaving l w (words a) out)
 
-unfoldable pub in_words : {A : Type 0} → Lent → (A → List ℕ) → Outcome A → Returned
+abbrev pub in_words : {A : Type 0} → Lent → (A → List ℕ) → Outcome A → Returned
 in_words l words o = said_in l words o.world o.output o.says

@@ -1,3 +1,4 @@
 pub mod Entering
 pub mod EngineCalls
 pub mod Promises
+pub mod Needs

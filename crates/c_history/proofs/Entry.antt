@@ -1,16 +1,12 @@
 -- 100 and 101 are returned exactly where the facts say so: a step's number is below 100.
 -- Assumes nothing.
-use Prim.Native.Nat.{ℕ, ◌<◌}
-use mathlib.Core.Path.{◌≡◌, refl, sym, subst}
-use mathlib.Core.Bool.{Bool, true, false, not}
-use mathlib.Core.List.{List, [], ◌∷◌}
-use native.Mathlib.Omega.{arith}
+use Rattle.std.proofs.Common.{ℕ, ◌<◌, ◌≡◌, refl, sym, subst, Bool, true, false, not, List, [], ◌∷◌, arith}
 use Rattle.words.specs.Rules.{refuse_if, first, settle}
 use Rattle.shape.specs.Calls.{Says, refuses, answers}
 use Rattle.shape.specs.Refusals.{Refusal}
 use Rattle.engine.specs.Calls.{Outcome}
 use Rattle.handler.specs.Calls.{Answer, step}
-use Rattle.c_entering.specs.Entering.{Lent, Returned, returned, entry_ruling, entering, world_of, said_in, in_words}
+use Rattle.c_entering.specs.Entering.{Lent, Returned, returned, world_of, said_in, in_words}
 use Rattle.c_entering.specs.EngineCalls.{start_in, start_in_words}
 use Rattle.c_calls.specs.Exported.{FromC, exported, start, receive, read_fifo, acknowledge_fifo, read_buffer}
 use Rattle.c_calls.specs.Exported.{release_buffer, request_dedicated, request_shared, cancel, ask_choice, report_sent}
@@ -28,7 +24,6 @@ Small s = (n : Refusal) → s ≡ refuses n → n.number < 100
 
 said_small : {A : Type 0} (l : Lent) (words : A → List ℕ) (o : Outcome A) → Small o.says
     → (in_words l words o).number < 100
-unfolding in_words
 said_small {A} l words o h = go o.says h
   where
     go : (v : Says A) → Small v → (said_in l words o.world o.output v).number < 100
@@ -36,7 +31,6 @@ said_small {A} l words o h = go o.says h
     go (refuses n) h = h n refl
 
 started_small : (l : Lent) (o : Outcome (Unit {0})) → Small o.says → (start_in_words l o).number < 100
-unfolding start_in_words
 started_small l o h = go o.says h
   where
     go : (v : Says (Unit {0})) → Small v → (start_in l o.world o.output v).number < 100
@@ -70,7 +64,6 @@ pub entry_cases : (l : Lent) (c : FromC) (P : Returned → Type 0)
     → (have_lengths l c ≡ true → say_yes_or_no l c ≡ true
     → (r : Returned) → r ≡ step_in_words l c (step (world_of l) (call_of l.output c)) → r.number < 100 → P r)
     → P (exported l c)
-unfolding entering entry_ruling
 entry_cases l c P long neither through =
     let call = call_of l.output c in
     let o = step (world_of l) call in
@@ -99,7 +92,7 @@ module _ (l : Lent) (c : FromC) where
   say_all h = each_every _ _ below_yes (yes_nos l.state c) h
 
   clash : {b : Bool} → b ≡ true → b ≡ false → ⊥
-  clash e f = let z : ◌≡◌ {A = ℕ} 0 1 = cc in omega arith
+  clash e f = cc
 
   entry_is_exact : TurnedAwayExactly l c
   entry_is_exact = record {

@@ -1,12 +1,7 @@
 -- A refusal has a number, and names sections in a start alone: of each row of the table.
 -- Assumes nothing.
-use Prim.Native.Nat.{ℕ, ◌<◌}
-use mathlib.Core.Path.{◌≡◌, refl, sym, ap, ◌∙◌}
-use mathlib.Core.Bool.{Bool, true, false, true≢false, ◌&&◌}
-use mathlib.Core.List.{List, [], ◌∷◌}
-use native.Mathlib.Omega.{arith}
-use borrow.Author.Tests.{ltb-true}
-use lib.Dec.{eqb, ltb}
+use Rattle.std.proofs.Common.{ℕ, ◌<◌, ◌≡◌, refl, sym, ap, ◌∙◌, Bool, true, false, true≢false, ◌&&◌, List, [], ◌∷◌}
+use Rattle.std.proofs.Common.{arith, ltb-true, eqb, ltb}
 use Rattle.words.specs.Rules.{Ruling, allowed, refused, first}
 use Rattle.words.proofs.Choices.{and_both}
 use Rattle.words.proofs.Rulings.{refused_by}
@@ -57,7 +52,7 @@ named g c t z a e =
     }
 
 first_known : (call : ℕ) (rs : Refusals) → Each (Row call) rs → Row call (first rs)
-first_known call [] h a e = let z : ◌≡◌ {A = ℕ} 0 1 = cc in absurd (omega arith)
+first_known call [] h a e = absurd cc
 first_known call (allowed ∷ rs) h a e = first_known call rs h.1 a e
 first_known call (refused c ∷ rs) h a e = h.0 a e
 

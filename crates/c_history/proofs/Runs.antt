@@ -1,12 +1,7 @@
 -- Calls from C, one after the other, are steps, one after the other.
 -- Assumes nothing.
-use Prim.Native.Nat.{ℕ, ◌<◌}
-use mathlib.Core.Path.{◌≡◌, refl, sym, ap, subst, ◌∙◌}
-use mathlib.Core.Bool.{Bool, true, false, ◌||◌}
-use mathlib.Core.List.{List, [], ◌∷◌}
-use native.Mathlib.Omega.{arith}
-use borrow.Author.Tests.{ne_eqb}
-use lib.Dec.{eqb}
+use Rattle.std.proofs.Common.{ℕ, ◌<◌, ◌≡◌, refl, sym, ap, subst, ◌∙◌, Bool, true, false, ◌||◌, List, [], ◌∷◌, arith}
+use Rattle.std.proofs.Common.{ne_eqb, eqb}
 use Rattle.words.specs.Choice.{pick}
 use Rattle.words.proofs.Choices.{pick_second}
 use Rattle.shape.specs.Calls.{Says, refuses, answers}
@@ -44,7 +39,6 @@ come_back w = λ i. world (values_come_back.state w.state i) (values_come_back.r
 module _ (l : Lent) where
   said_world : {A : Type 0} (words : A → List ℕ) (o : Outcome A) → Stays (world_of l) o
       → world_of (in_words l words o).lent ≡ o.world
-  unfolding in_words
   said_world {A} words o stays = go o.says stays
     where
       go : (v : Says A) → ((n : Refusal) → v ≡ refuses n → o.world ≡ world_of l)
@@ -53,7 +47,6 @@ module _ (l : Lent) where
       go (refuses n) h = sym (h n refl)
 
   started_world : (o : Outcome (Unit {0})) → Stays (world_of l) o → world_of (start_in_words l o).lent ≡ o.world
-  unfolding start_in_words
   started_world o stays = go o.says stays
     where
       go : (v : Says (Unit {0})) → ((n : Refusal) → v ≡ refuses n → o.world ≡ world_of l)
@@ -97,8 +90,8 @@ next l c =
     let stays : Stays (world_of l) o =
     λ n e. ap (λ (p : Outcome (Answer call)). p.world) ((refusals_are_exact (world_of l) call).stays n e) in
     entry_cases l c (Next l c)
-    (λ e. record { world = refl; told = λ q. let z : ◌≡◌ {A = ℕ} 0 1 = cc in absurd (omega arith) })
-    (λ e f. record { world = refl; told = λ q. let z : ◌≡◌ {A = ℕ} 0 1 = cc in absurd (omega arith) })
+    (λ e. record { world = refl; told = λ q. absurd cc })
+    (λ e f. record { world = refl; told = λ q. absurd cc })
     (λ e f r same small. record {
       world =
           ap (λ (x : Returned). world_of x.lent) same ∙ step_world l c o stays

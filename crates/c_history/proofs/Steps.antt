@@ -1,13 +1,7 @@
 -- Each exported function is a step by computation; what it said comes back from its number and words.
 -- Assumes nothing.
-use Prim.Native.Nat.{ℕ}
-use mathlib.Core.Path.{◌≡◌, refl, sym, ap, ap₂, ◌∙◌}
-use mathlib.Core.Bool.{Bool, false, ◌&&◌}
-use mathlib.Core.List.{List, []}
-use native.Mathlib.Omega.{arith}
-use borrow.Author.Tests.{ne_eqb}
-use lib.Dec.{eqb}
-use lib.ListN.{length}
+use Rattle.std.proofs.Common.{ℕ, ◌≡◌, refl, sym, ap, ap₂, ◌∙◌, Bool, false, ◌&&◌, List, [], arith, ne_eqb, eqb}
+use Rattle.std.proofs.Common.{length}
 use Rattle.words.specs.Choice.{pick}
 use Rattle.words.specs.Runs.{part, splice}
 use Rattle.words.proofs.Choices.{pick_second}
@@ -35,12 +29,7 @@ use Rattle.c_answers.specs.Answers.{start_words}
 use Rattle.c_answers.specs.Back.{fate_in, read_in, buffer_in, choice_in, event_in, overview_in}
 use Rattle.c_answers.proofs.Back.{answers_come_back}
 use Rattle.c_entering.specs.Entering.{Lent, entering, sized, world_of, said_in, in_words}
-use Rattle.c_entering.specs.EngineCalls.{start_call, clear_call, status_call, start_in, start_in_words}
-use Rattle.c_receiving.specs.ReceivingCalls.{receive_call, read_fifo_call, acknowledge_fifo_call, read_buffer_call}
-use Rattle.c_receiving.specs.ReceivingCalls.{release_buffer_call}
-use Rattle.c_requesting.specs.RequestingCalls.{request_dedicated_call, request_shared_call, cancel_call}
-use Rattle.c_requesting.specs.EventCalls.{read_event_call, acknowledge_event_call}
-use Rattle.c_choosing.specs.ChoosingCalls.{ask_choice_call, report_sent_call}
+use Rattle.c_entering.specs.EngineCalls.{start_in, start_in_words}
 use Rattle.c_choosing.proofs.Nothing.{nothing_is_no_buffer}
 use Rattle.c_calls.specs.Exported.{FromC, exported, start, receive, read_fifo, acknowledge_fifo, read_buffer, release_buffer}
 use Rattle.c_calls.specs.Exported.{request_dedicated, request_shared, cancel, ask_choice, report_sent, read_event}
@@ -55,8 +44,6 @@ entered : (l : Lent) (c : FromC)
     → exported l c
     ≡ entering l (sized l.state l.recorded && own_lengths l.answer c) (say_so l.state c)
     (step_in_words l c (step (world_of l) (call_of l.output c)))
-unfolding start_call receive_call read_fifo_call acknowledge_fifo_call read_buffer_call release_buffer_call request_dedicated_call
-    request_shared_call cancel_call ask_choice_call report_sent_call read_event_call acknowledge_event_call clear_call status_call
 entered l (start registers) = refl
 entered l (receive frame bytes time) = refl
 entered l (read_fifo fifo place) = refl
@@ -91,7 +78,6 @@ module _ {A : Type 0} (l : Lent) (words : A → List ℕ) (back : List ℕ → A
   read_back : (call : ℕ) (o : Outcome A) → eqb call 1 ≡ false
       → ((a : A) → o.says ≡ answers a → back (splice l.answer 0 (words a)) ≡ a)
       → ((n : Refusal) → o.says ≡ refuses n → Known call n) → Read o ≡ o.says
-  unfolding in_words
   read_back call o other comes known = go o.says comes known
     where
       go : (v : Says A) → ((a : A) → v ≡ answers a → back (splice l.answer 0 (words a)) ≡ a)
@@ -110,7 +96,7 @@ started_back : (l : Lent) (o : Outcome (Unit {0})) → ((n : Refusal) → o.says
     → let r = start_in_words l o in
     let ws = r.lent.answer in
     pick (eqb r.number 0) (answers tt) (refuses (names r.number (word ws 0) (word ws 1))) ≡ o.says
-unfolding start_in_words splice
+unfolding splice
 started_back l o known = go o.says known
   where
     go : (v : Says (Unit {0})) → ((n : Refusal) → v ≡ refuses n → Known 1 n)
@@ -179,7 +165,6 @@ module _ {A : Type 0} (l : Lent) (o : Outcome A) where
   -- bytes that were lent
   put_out : (words : A → List ℕ) → ((n : Refusal) → o.says ≡ refuses n → o.output ≡ l.output)
       → (in_words l words o).lent.output ≡ o.output
-  unfolding in_words
   put_out words stays = go o.says stays
     where
       go : (v : Says A) → ((n : Refusal) → v ≡ refuses n → o.output ≡ l.output)
@@ -192,7 +177,7 @@ reported : (l : Lent) (g : Registers) (o : Outcome (Unit {0})) → ((n : Refusal
     → ((n : Refusal) → o.says ≡ refuses n → o.output ≡ unreported)
     → (o.says ≡ done → o.output ≡ flat (sections_of g))
     → let r = start_in_words l o in pick (eqb r.number 0) (part 2 14 r.lent.answer) unreported ≡ o.output
-unfolding start_in_words splice part
+unfolding splice part
 reported l g o known stays tells = go o.says known stays tells
   where
     go : (v : Says (Unit {0})) → ((n : Refusal) → v ≡ refuses n → Known 1 n)

@@ -1,11 +1,7 @@
 -- The tests of 100 and 101 that the calls make are those of the tables, and true exactly where the facts are.
 -- Assumes nothing.
-use Prim.Native.Nat.{ℕ, ◌<◌}
-use mathlib.Core.Path.{◌≡◌, refl, ap, ap₂}
-use mathlib.Core.Bool.{Bool, true, false, ◌&&◌}
-use mathlib.Core.List.{List, [], ◌∷◌}
-use borrow.Author.Tests.{eqb-true, eq-eqb, ltb-true, lt-ltb}
-use lib.ListN.{length}
+use Rattle.std.proofs.Common.{ℕ, ◌<◌, ◌≡◌, refl, ap, ap₂, Bool, true, false, ◌&&◌, List, [], ◌∷◌, eqb-true, eq-eqb}
+use Rattle.std.proofs.Common.{ltb-true, lt-ltb, length}
 use Rattle.words.proofs.Choices.{and_both}
 use Rattle.books.specs.Lists.{Each}
 use Rattle.c_words.specs.Words.{word, is_yes_no}

@@ -8,25 +8,25 @@ use Rattle.c_answers.specs.Answers.{no_words, fate_words, read_words}
 use Rattle.c_entering.specs.Entering.{Lent, Returned, has, crossing, world_of, in_words}
 
 -- call 2
-unfoldable pub receive_call : Lent → List ℕ → List ℕ → ℕ → Returned
+abbrev pub receive_call : Lent → List ℕ → List ℕ → ℕ → Returned
 receive_call l frame bytes time =
     crossing l (has frame 7 && has l.answer 16) (plain_frame frame)
     (in_words l fate_words (receive (world_of l) (unpack_frame frame) bytes time))
 
 -- call 3
-unfoldable pub read_fifo_call : Lent → ℕ → ℕ → Returned
+abbrev pub read_fifo_call : Lent → ℕ → ℕ → Returned
 read_fifo_call l fifo place =
     crossing l (has l.answer 16) true (in_words l read_words (read_fifo (world_of l) fifo place l.output))
 
 -- call 4
-unfoldable pub acknowledge_fifo_call : Lent → ℕ → ℕ → Returned
+abbrev pub acknowledge_fifo_call : Lent → ℕ → ℕ → Returned
 acknowledge_fifo_call l fifo place = crossing l true true (in_words l no_words (acknowledge_fifo (world_of l) fifo place))
 
 -- call 5
-unfoldable pub read_buffer_call : Lent → ℕ → Returned
+abbrev pub read_buffer_call : Lent → ℕ → Returned
 read_buffer_call l buffer =
     crossing l (has l.answer 16) true (in_words l read_words (read_buffer (world_of l) buffer l.output))
 
 -- call 6
-unfoldable pub release_buffer_call : Lent → ℕ → Returned
+abbrev pub release_buffer_call : Lent → ℕ → Returned
 release_buffer_call l buffer = crossing l true true (in_words l no_words (release_buffer (world_of l) buffer))

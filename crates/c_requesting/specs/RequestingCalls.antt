@@ -8,17 +8,17 @@ use Rattle.c_answers.specs.Answers.{no_words, buffer_words}
 use Rattle.c_entering.specs.Entering.{Lent, Returned, has, crossing, world_of, in_words}
 
 -- call 7
-unfoldable pub request_dedicated_call : Lent → ℕ → List ℕ → List ℕ → ℕ → ℕ → Returned
+abbrev pub request_dedicated_call : Lent → ℕ → List ℕ → List ℕ → ℕ → ℕ → Returned
 request_dedicated_call l buffer frame bytes marker wish =
     crossing l (has frame 7 && has l.answer 16) (is_yes_no wish && plain_frame frame)
     (in_words l buffer_words (request_dedicated (world_of l) buffer (unpack_request frame marker wish) bytes))
 
 -- call 8
-unfoldable pub request_shared_call : Lent → List ℕ → List ℕ → ℕ → ℕ → Returned
+abbrev pub request_shared_call : Lent → List ℕ → List ℕ → ℕ → ℕ → Returned
 request_shared_call l frame bytes marker wish =
     crossing l (has frame 7 && has l.answer 16) (is_yes_no wish && plain_frame frame)
     (in_words l buffer_words (request_shared (world_of l) (unpack_request frame marker wish) bytes))
 
 -- call 9
-unfoldable pub cancel_call : Lent → ℕ → Returned
+abbrev pub cancel_call : Lent → ℕ → Returned
 cancel_call l buffer = crossing l true true (in_words l no_words (cancel (world_of l) buffer))

@@ -1,14 +1,13 @@
 -- Packing and unpacking are inverse, both ways.
 -- Assumes nothing.
-use Prim.Native.Nat.{ℕ, zero, suc, ◌+◌, ◌*◌, ◌/◌, ◌%◌, ◌^◌, ◌<◌}
-use mathlib.Core.Path.{◌≡◌, refl, sym, ap, ◌∙◌}
-use mathlib.Core.Bool.{Bool, true, false, ◌&&◌}
-use mathlib.Core.List.{List}
-use native.Mathlib.Omega.{arith}
-use borrow.Author.Tests.{ltb-true}
-use lib.ListN.{length, take}
+use Rattle.std.proofs.Common.{ℕ, zero, suc, ◌+◌, ◌*◌, ◌/◌, ◌%◌, ◌^◌, ◌<◌, ◌≡◌, refl, sym, ap, ◌∙◌, arith}
+use Rattle.std.proofs.Common.{Bool, true, false, ◌&&◌, List, length, take}
+use Rattle.std.proofs.Math.Nat.{zero-add}
+use Rattle.std.proofs.lemmas.Bool.{ltb-true}
+use Rattle.std.proofs.lemmas.List.{ext_get_or}
 use Rattle.words.specs.Runs.{run}
 use Rattle.words.proofs.Choices.{and_both}
+use Rattle.words.proofs.Runs.{length_run, get_or_run}
 use Rattle.frame.specs.declared.Frame.{Frame}
 use Rattle.engine.specs.States.{empty_state}
 use Rattle.engine.specs.declared.state.State.{State}
@@ -19,10 +18,9 @@ use Rattle.c_words.specs.States.{pack_record, unpack_record}
 use Rattle.c_words.specs.Needs.{StateWords}
 use Rattle.c_words.specs.Frames.{plain_frame, pack_frame, unpack_frame}
 use Rattle.c_words.specs.Promises.{ValuesComeBack, WordsComeBack, RegistersComeFirst, OneIsYes}
-use Rattle.c_words.proofs.Spelled.{spelled}
 
 -- a word of yes or no
-yes_back : (b : Bool) → says_yes (yes_no b) ≡ b
+pub yes_back : (b : Bool) → says_yes (yes_no b) ≡ b
 yes_back true = refl
 yes_back false = refl
 
@@ -92,7 +90,10 @@ values_come_back = record { state = state_back; recorded = λ r. refl; frame = f
 
 -- words of this number are those that stand at their places
 spelled_out : (ws : List ℕ) (n : ℕ) → length ws ≡ n → run (word ws) 0 n ≡ ws
-spelled_out ws n e = ap (run (word ws) 0) (sym e) ∙ spelled ws
+spelled_out ws n e =
+    let size = length_run (word ws) 0 n in
+    ext_get_or 0 (run (word ws) 0 n) ws (size ∙ sym e)
+    (λ i h. get_or_run (word ws) 0 n i (omega arith) ∙ ap (word ws) (zero-add i))
 
 state_forth : (ws : List ℕ) → length ws ≡ state_words → after_registers ws 8 < 2 ^ 32 → plain_registers ws ≡ true → ComesBack ws
 unfolding pack_state unpack_state run
@@ -107,10 +108,9 @@ state_forth ws e low plain =
     ) in
     z ∙ spelled_out ws state_words e
 
--- a state that was taken from words
-pub taken : (ws : List ℕ) (s : State) → StateWords ws → after_registers ws 8 < 2 ^ 32 → s ≡ unpack_state ws
-    → (s ≡ unpack_state ws) × ComesBack ws
-taken ws s h low e = (e, state_forth ws h.size low h.plain)
+-- words from which a state can be taken, of 32 bits where a half of 64 stands
+pub taken_back : (ws : List ℕ) → StateWords ws → after_registers ws 8 < 2 ^ 32 → ComesBack ws
+taken_back ws h low = state_forth ws h.size low h.plain
 
 pub record_forth : (ws : List ℕ) → length ws ≡ 2 → pack_record (unpack_record ws) ≡ ws
 unfolding run

@@ -1,3 +1,1 @@
-pub mod Spelled
 pub mod Inverse
-pub mod Left

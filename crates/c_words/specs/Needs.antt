@@ -6,8 +6,3 @@ use Rattle.c_words.specs.States.{state_words, plain_registers}
 pub record StateWords (ws : List ℕ) : Type 0 where
   pub size : length ws ≡ state_words
   pub plain : plain_registers ws ≡ true
-
--- a state and a record can be taken from these words, and put there
-pub record BoxWords (state recorded : List ℕ) : Type 0 where
-  pub states : StateWords state
-  pub records : length recorded ≡ 2

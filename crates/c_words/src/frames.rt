@@ -1,8 +1,8 @@
-// A frame and a request as words, and back.
+// A frame and a request as words, and back: by functions and no `From`, which the orphan rule refuses here.
 ghost use Rattle.std.specs.Prelude.{◌≡◌, length};
 ghost use Rattle.c_words.specs.Frames.{plain_frame, unpack_frame, pack_frame, unpack_request};
 
-use crate::buffers::word_at;
+use crate::buffers::is_yes_no;
 use element::TxHeader;
 use frame::Frame;
 use words::bit_of;
@@ -13,12 +13,11 @@ pub const FRAME_WORDS: usize = 7;
 pub fn is_plain_frame(words: &[u32]) -> bool
     ensures { result ≡ plain_frame words.now }
 {
-    let xtd = word_at(words, 1);
-    let rtr = word_at(words, 2);
-    let fdf = word_at(words, 3);
-    let brs = word_at(words, 4);
-    let esi = word_at(words, 5);
-    (xtd < 2) & (rtr < 2) & (fdf < 2) & (brs < 2) & (esi < 2)
+    is_yes_no(words, 1)
+        && is_yes_no(words, 2)
+        && is_yes_no(words, 3)
+        && is_yes_no(words, 4)
+        && is_yes_no(words, 5)
 }
 
 pub fn take_frame(words: &[u32]) -> Frame
@@ -36,15 +35,19 @@ pub fn take_frame(words: &[u32]) -> Frame
     }
 }
 
+#[tactic(auto, unfolding(crate::specs::Frames::pack_frame))]
 pub fn pack_frame(f: Frame) -> [u32; 7]
     ensures { result ≡ pack_frame f }
 {
-    let xtd = bit_of(f.xtd);
-    let rtr = bit_of(f.rtr);
-    let fdf = bit_of(f.fdf);
-    let brs = bit_of(f.brs);
-    let esi = bit_of(f.esi);
-    [f.id, xtd, rtr, fdf, brs, esi, f.dlc]
+    [
+        f.id,
+        bit_of(f.xtd),
+        bit_of(f.rtr),
+        bit_of(f.fdf),
+        bit_of(f.brs),
+        bit_of(f.esi),
+        f.dlc,
+    ]
 }
 
 // What a request brings.

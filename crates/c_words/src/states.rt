@@ -1,13 +1,12 @@
 // A state, its registers and a record as words, and back.
 ghost use Rattle.std.specs.Prelude.{◌≡◌, ◌+◌, ◌*◌, ◌^◌, ◌≤◌, ◌<◌, length};
-ghost use Rattle.words.specs.Choice.{pick};
 ghost use Rattle.c_words.specs.Needs.{StateWords};
 ghost use Rattle.c_words.specs.States.{register_words, state_words};
 ghost use Rattle.c_words.specs.States.{plain_registers, unpack_registers, unpack_ring, unpack_state, pack_state};
 ghost use Rattle.c_words.specs.States.{ComesBack};
 ghost use Rattle.c_words.specs.States.{unpack_record, pack_record};
 
-use crate::buffers::{put, word_at};
+use crate::buffers::is_yes_no;
 use engine::state::{Record, State};
 use registers::Registers;
 use ring::Ring;
@@ -42,9 +41,7 @@ const CANCELLED_AT: usize = REGISTER_WORDS + 12;
 pub fn is_plain_registers(words: &[u32]) -> bool
     ensures { result ≡ plain_registers words.now }
 {
-    let fdon = word_at(words, 12);
-    let rateon = word_at(words, 13);
-    (fdon < 2) & (rateon < 2)
+    is_yes_no(words, 12) && is_yes_no(words, 13)
 }
 
 pub fn take_registers(words: &[u32]) -> Registers
@@ -68,10 +65,11 @@ fn take_ring(words: &[u32], at: usize) -> Ring
 fn joined(low: u32, high: u32) -> u64
     ensures { result ≡ low + high * 2 ^ 32 }
 {
-    low as u64 + high as u64 * 0x1_0000_0000
+    u64::from(low) + u64::from(high) * 0x1_0000_0000
 }
 
 // The state that stands in any words; another word than 1 says no.
+#[tactic(auto, unfolding(crate::specs::States::unpack_state))]
 pub fn take_any_state(words: &[u32]) -> State
     requires { length words.now ≡ state_words }
     ensures { result ≡ unpack_state words.now }
@@ -95,18 +93,19 @@ pub fn take_any_state(words: &[u32]) -> State
 }
 
 // Packed again it gives the same words.
+#[tactic(auto, using(crate::proofs::Inverse::taken_back))]
 pub fn take_state(words: &[u32]) -> State
     requires { StateWords words.now }
-    ensures { (result ≡ unpack_state words.now) × ComesBack words.now }
+    ensures is { result ≡ unpack_state words.now }
+    ensures comes_back { ComesBack words.now }
 {
     take_any_state(words)
 }
 
+#[tactic(auto, unfolding(crate::specs::States::pack_state))]
 fn pack_state(s: State) -> [u32; STATE_WORDS]
     ensures { result ≡ pack_state s }
 {
-    let fdon = bit_of(s.regs.fdon);
-    let rateon = bit_of(s.regs.rateon);
     [
         s.regs.sidfc.word,
         s.regs.xidfc.word,
@@ -120,8 +119,8 @@ fn pack_state(s: State) -> [u32; STATE_WORDS]
         s.regs.gfc.word,
         s.regs.xidam.word,
         s.regs.buffers,
-        fdon,
-        rateon,
+        bit_of(s.regs.fdon),
+        bit_of(s.regs.rateon),
         s.regs.memory,
         s.fifo0.oldest,
         s.fifo0.fill,
@@ -143,8 +142,7 @@ pub fn put_state(words: &mut [u32], s: State)
     requires { length words.old ≡ state_words }
     ensures { words.new ≡ pack_state s }
 {
-    let packed = pack_state(s);
-    put(words, 0, &packed)
+    words.copy_from_slice(&pack_state(s));
 }
 
 pub fn take_record(words: &[u32]) -> Record
@@ -157,39 +155,9 @@ pub fn take_record(words: &[u32]) -> Record
     }
 }
 
-fn put_record(words: &mut [u32], r: Record)
+pub fn put_record(words: &mut [u32], r: Record)
     requires { length words.old ≡ 2 }
     ensures { words.new ≡ pack_record r }
 {
-    put(words, 0, &[r.flags, r.priority])
-}
-
-// Leaves a state where the call was accepted: a refused one stores nothing.
-pub fn leave_state(accepted: bool, words: &mut [u32], s: State)
-    requires { length words.old ≡ state_words }
-    ensures { words.new ≡ pick accepted (pack_state s) words.old }
-{
-    if accepted {
-        put_state(words, s)
-    }
-}
-
-// The same of a record.
-pub fn leave_record(accepted: bool, words: &mut [u32], r: Record)
-    requires { length words.old ≡ 2 }
-    ensures { words.new ≡ pick accepted (pack_record r) words.old }
-{
-    if accepted {
-        put_record(words, r)
-    }
-}
-
-// The same of both.
-pub fn leave_both(accepted: bool, state: &mut [u32], recorded: &mut [u32], s: State, r: Record)
-    requires { (length state.old ≡ state_words) × (length recorded.old ≡ 2) }
-    ensures { (state.new ≡ pick accepted (pack_state s) state.old)
-        × (recorded.new ≡ pick accepted (pack_record r) recorded.old) }
-{
-    leave_state(accepted, state, s);
-    leave_record(accepted, recorded, r)
+    words.copy_from_slice(&[r.flags, r.priority]);
 }

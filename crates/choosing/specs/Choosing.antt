@@ -1,5 +1,5 @@
 -- Call 10, ask the choice: the best candidate in arbitration, and its frame as it is sent.
-use Rattle.std.specs.Prelude.{ℕ, ◌+◌, Bool, ◌&&◌, List, [], ◌∷◌, ◌++◌, eqb, ltb, length}
+use Rattle.std.specs.Prelude.{ℕ, ◌+◌, Option, Some, None, Bool, ◌&&◌, List, [], ◌∷◌, ◌++◌, eqb, ltb, length}
 use Rattle.words.specs.Choice.{pick}
 use Rattle.words.specs.Best.{Best, nobody, somebody, best_below}
 use Rattle.words.specs.Runs.{splice}
@@ -11,16 +11,13 @@ use Rattle.registers.specs.declared.Registers.{Registers}
 use Rattle.element.specs.Bytes.{length_of, sent_from}
 use Rattle.places.specs.Areas.{place_in}
 use Rattle.areas.specs.Areas.{tx_area, data_words}
-use Rattle.shape.specs.Calls.{Says, refuses, answers, effect, call}
+use Rattle.shape.specs.Calls.{effect, call}
 use Rattle.shape.specs.Refusals.{Refusals}
-use Rattle.engine.specs.Answers.{told}
 use Rattle.engine.specs.Buffers.{is_pending}
 use Rattle.engine.specs.Calls.{World, Outcome, Effect, ◌when◌, is_unfit, output_refusals}
 use Rattle.engine.specs.declared.state.State.{State}
 use Rattle.choosing.specs.Buffers.{header_of}
 use Rattle.choosing.specs.declared.asking.Chosen.{Chosen}
-use Rattle.choosing.specs.declared.asking.ChoiceAnswer.{ChoiceAnswer}
-use Rattle.choosing.specs.declared.asking.ChoiceAnswer.TheVariants.{Nothing, Send, Refused}
 
 -- ---- which buffer
 
@@ -75,10 +72,9 @@ output_of s mem passive out nobody = out
 output_of s mem passive out (somebody buffer) = splice out 0 (bytes_of s mem passive buffer)
 
 -- what the code answers
-abbrev pub meaning : ChoiceAnswer → Says Next
-meaning Nothing = answers none
-meaning (Send c) = answers (send c)
-meaning (Refused n) = refuses (told n)
+abbrev pub next : Option Chosen → Next
+next None = none
+next (Some c) = send c
 
 -- ---- the call
 

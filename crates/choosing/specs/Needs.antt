@@ -1,7 +1,6 @@
 -- What helpers ask of their callers, and what they find so far. A reader of the promises need not read it.
-use Rattle.std.specs.Prelude.{ℕ, ◌<◌, ◌≡◌, List, length}
+use Rattle.std.specs.Prelude.{ℕ, ◌<◌, ◌≡◌, Option, Some, None, List, length}
 use Rattle.words.specs.Best.{Best, nobody, somebody, better, best_below}
-use Rattle.words.specs.Choice.{pick}
 use Rattle.frame.specs.Arbitration.{rank_of}
 use Rattle.places.specs.Areas.{HasPlace}
 use Rattle.places.specs.declared.Area.{Area}
@@ -10,37 +9,32 @@ use Rattle.engine.specs.Fitness.{Sound}
 use Rattle.engine.specs.declared.state.State.{State}
 use Rattle.choosing.specs.Buffers.{header_in}
 use Rattle.choosing.specs.Choosing.{is_candidate, rank_at}
-use Rattle.choosing.specs.declared.picking.Pick.{Pick}
-use Rattle.choosing.specs.declared.picking.Pick.TheVariants.{Nobody, Buffer}
 
 -- ---- the scan
 
-abbrev pub picked : Pick → Best
-picked Nobody = nobody
-picked (Buffer b) = somebody b
+abbrev pub picked : Option ℕ → Best
+picked None = nobody
+picked (Some b) = somebody b
 
 -- a buffer's rank, in the area of the Tx buffers
 unfoldable pub rank_in : List ℕ → Area → ℕ → ℕ
 rank_in mem a buffer = rank_of (header_in mem a buffer).frame
 
--- a candidate against the pick so far, and any buffer against it
-unfoldable pub better_in : List ℕ → Area → Pick → ℕ → Best
+-- a candidate against the pick so far
+unfoldable pub better_in : List ℕ → Area → Option ℕ → ℕ → Best
 better_in mem a best buffer = better (rank_in mem a) (picked best) buffer
-
-unfoldable pub looked_at : State → List ℕ → Area → Pick → ℕ → Best
-looked_at s mem a best buffer = pick (is_candidate s buffer) (better_in mem a best buffer) (picked best)
 
 -- the choice among the first n buffers
 abbrev pub choice_below : State → List ℕ → ℕ → Best
 choice_below s mem n = best_below (is_candidate s) (rank_at s mem) n
 
 -- the pick so far is below a number
-abbrev pub Below : Pick → ℕ → Type 0
-Below Nobody n = Unit {0}
-Below (Buffer b) n = b < n
+abbrev pub Below : Option ℕ → ℕ → Type 0
+Below None n = Unit {0}
+Below (Some b) n = b < n
 
 -- a buffer can be compared with the pick so far
-pub record Comparable (a : Area) (words : ℕ) (best : Pick) (buffer : ℕ) : Type 0 where
+pub record Comparable (a : Area) (words : ℕ) (best : Option ℕ) (buffer : ℕ) : Type 0 where
   pub place : HasPlace a buffer words
   pub small : buffer < 32
   pub below : Below best buffer

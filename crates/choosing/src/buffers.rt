@@ -8,15 +8,15 @@ ghost use Rattle.choosing.specs.Choosing.{form_sent};
 
 use element::TxHeader;
 use element::memory::read_tx;
-use frame::{Frame, as_sent};
-use places::{Area, place_in};
+use frame::Frame;
+use places::Area;
 use registers::Registers;
 
 // Whether a buffer is in the shared part, and that is a FIFO.
 pub fn in_shared_fifo(r: Registers, buffer: u32) -> bool
     ensures { result ≡ (leb (dedicated r) buffer && not (is_queue r)) }
 {
-    (r.txbc.dedicated() <= buffer) & !r.is_queue()
+    r.txbc.dedicated() <= buffer && !r.is_queue()
 }
 
 // What stands in a buffer's element, but for the bytes.
@@ -24,12 +24,12 @@ pub fn header_at(mem: &[u32], a: Area, buffer: u32) -> TxHeader
     requires { HasPlace a buffer (length mem.now) }
     ensures { (result ≡ header_in mem.now a buffer) × InFields result.frame }
 {
-    read_tx(mem, place_in(a, buffer, mem.len()))
+    read_tx(mem, a.place_in(buffer, mem.len()))
 }
 
 // A frame as it is sent.
 pub fn form_sent(r: Registers, f: Frame, passive: bool) -> Frame
     ensures { result ≡ form_sent r f passive }
 {
-    as_sent(f, r.fdon, r.rateon, passive)
+    f.as_sent(r.fdon, r.rateon, passive)
 }

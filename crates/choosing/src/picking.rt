@@ -3,91 +3,70 @@ ghost use Rattle.std.specs.Prelude.{◌≡◌, ◌&&◌, ◌+◌, ◌≤◌, ◌
 ghost use Rattle.places.specs.Areas.{HasPlace};
 ghost use Rattle.engine.specs.Fitness.{Sound};
 ghost use Rattle.choosing.specs.Choosing.{is_candidate, choice};
-ghost use Rattle.choosing.specs.Needs.{picked, rank_in, better_in, looked_at, Comparable};
+ghost use Rattle.choosing.specs.Needs.{picked, rank_in, better_in, Comparable};
 
 use areas::tx_area;
 use element::unpack::tx_header;
 use engine::state::State;
-use places::{Area, place_in};
+use places::Area;
 use ring::Ring;
-use words::bits32;
-
-// The best candidate, if there is one.
-#[derive(Clone, Copy)]
-pub enum Pick {
-    Nobody,
-    Buffer(u32),
-}
+use words::bits;
 
 // Whether a shared buffer is the FIFO's oldest.
 fn is_oldest(q: Ring, dedicated: u32, buffer: u32) -> bool
     requires { dedicated ≤ buffer }
     ensures { result ≡ (ltb 0 q.fill && eqb buffer (dedicated + q.oldest)) }
 {
-    (0 < q.fill) & (buffer - dedicated == q.oldest)
+    0 < q.fill && buffer - dedicated == q.oldest
 }
 
-// A pending dedicated buffer, the shared FIFO's oldest, or a pending queue buffer.
+// A pending dedicated or queue buffer, or the shared FIFO's oldest.
+#[tactic(auto, unfolding(crate::specs::Choosing::is_candidate))]
 fn is_candidate(s: State, buffer: u32) -> bool
     requires { buffer < 32 }
     ensures { result ≡ is_candidate s buffer }
 {
     let dedicated = s.regs.txbc.dedicated();
-    if buffer < dedicated {
-        return bits32::test(s.pending, buffer);
-    }
-    if s.regs.is_queue() {
-        return bits32::test(s.pending, buffer);
+    if buffer < dedicated || s.regs.is_queue() {
+        return bits::test(s.pending, buffer);
     }
     is_oldest(s.shared, dedicated, buffer)
 }
 
 // A buffer's rank, which is in the first word of its element alone.
+#[tactic(auto, unfolding(crate::specs::Needs::rank_in, element::specs::Headers::tx_header_in, element::specs::Headers::frame_in))]
 fn rank_at(mem: &[u32], a: Area, buffer: u32) -> u32
     requires { HasPlace a buffer (length mem.now) }
     ensures { result ≡ rank_in mem.now a buffer }
 {
-    let at = place_in(a, buffer, mem.len());
-    let h = tx_header(mem[at.0 as usize], 0);
-    let f = h.frame;
-    frame::rank(f.xtd, f.rtr, f.id)
+    let at = a.place_in(buffer, mem.len());
+    tx_header(mem[at.0 as usize], 0).frame.rank()
 }
 
 // A candidate against the best of the lower numbers: only a smaller rank is better.
-fn better_of(mem: &[u32], a: Area, best: Pick, buffer: u32) -> Pick
+#[tactic(auto, unfolding(crate::specs::Needs::better_in))]
+fn better_of(mem: &[u32], a: Area, best: Option<u32>, buffer: u32) -> Option<u32>
     requires { Comparable a (length mem.now) best buffer }
     ensures { picked result ≡ better_in mem.now a best buffer }
 {
-    let Pick::Buffer(b) = best else {
-        return Pick::Buffer(buffer);
-    };
-    if rank_at(mem, a, buffer) < rank_at(mem, a, b) {
-        return Pick::Buffer(buffer);
+    match best {
+        Some(b) if rank_at(mem, a, b) <= rank_at(mem, a, buffer) => best,
+        _ => Some(buffer),
     }
-    Pick::Buffer(b)
-}
-
-// The best of the buffers so far and one more.
-fn look_at(s: State, mem: &[u32], a: Area, best: Pick, buffer: u32) -> Pick
-    requires { Comparable a (length mem.now) best buffer }
-    ensures { picked result ≡ looked_at s mem.now a best buffer }
-{
-    if is_candidate(s, buffer) {
-        return better_of(mem, a, best, buffer);
-    }
-    best
 }
 
 // The candidate of the smallest rank, and of several such the one of the lowest number.
-pub fn best_buffer(s: State, mem: &[u32]) -> Pick
+#[tactic(auto, using(words::proofs::Bests::best_start, crate::proofs::Picks::one_more, crate::proofs::Picks::none_more), unfolding(crate::specs::Choosing::choice))]
+pub fn best_buffer(s: State, mem: &[u32]) -> Option<u32>
     requires { Sound s (length mem.now) }
     ensures { picked result ≡ choice s mem.now }
 {
     let a = tx_area(s.regs);
-    let count = a.count;
-    let mut best = Pick::Nobody;
-    for buffer in 0..count {
-        best = look_at(s, mem, a, best, buffer);
+    let mut best = None;
+    for buffer in 0..a.count {
+        if is_candidate(s, buffer) {
+            best = better_of(mem, a, best, buffer);
+        }
     }
     best
 }

@@ -1,5 +1,5 @@
 // What C links: each function of the handler for C, and each step on the record in place, under the name and with the
-// contract that it has in its own crate.
+// contract that it has in its own crate. Twice, for the C interface: a static library states what it exports again.
 #![tactic(auto)]
 
 ghost use Rattle.std.specs.Prelude.{◌≡◌, []};

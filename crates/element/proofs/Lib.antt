@@ -1,5 +1,3 @@
-pub mod Packing
-pub mod Unpacking
 pub mod Storing
 pub mod Readings
 pub mod Fitness

@@ -1,9 +1,9 @@
 -- A read looks at the element's own words alone.
 -- Assumes nothing.
-use Prim.Native.Nat.{ℕ, zero, suc, ◌+◌, ◌*◌, ◌/◌, ◌%◌, ◌<◌, min}
+use Prim.Native.Nat.{ℕ, ◌+◌, ◌*◌, ◌/◌, ◌%◌, ◌<◌, min}
 use mathlib.Core.Path.{◌≡◌, refl, sym, ap, ap₂, ◌∙◌}
 use mathlib.Core.Bool.{Bool, true, false}
-use mathlib.Core.List.{List, ◌∷◌}
+use mathlib.Core.List.{List}
 use native.Mathlib.Omega.{arith}
 use borrow.Author.Tests.{ltb-true}
 use lib.Dec.{ltb}
@@ -11,6 +11,7 @@ use lib.ListN.{get_or}
 use Rattle.words.specs.Choice.{pick}
 use Rattle.words.specs.Runs.{run, part}
 use Rattle.words.specs.Bytes.{byte_of, byte_in}
+use Rattle.words.proofs.Runs.{run_alike}
 use Rattle.words.proofs.Parts.{get_d_part}
 use Rattle.element.specs.Headers.{frame_in, headed}
 use Rattle.element.specs.Bytes.{length_of, read_count, read_bytes, sent_byte, sent_from}
@@ -18,9 +19,7 @@ use Rattle.element.specs.Promises.{OwnWords}
 
 -- two functions that agree have the same run
 pub run_same : (f g : ℕ → ℕ) (k n : ℕ) → ((i : ℕ) → i < k + n → f i ≡ g i) → run f k n ≡ run g k n
-unfolding run
-run_same f g k zero same = refl
-run_same f g k (suc n) same = ap₂ ◌∷◌ (same k (omega arith)) (run_same f g (suc k) n (λ i l. same i (omega arith)))
+run_same f g k n same = run_alike f g k k n (λ i l. same (k + i) (omega arith))
 
 -- bytes that agree inside the element go out alike
 pub sent_alike : (a b n i : ℕ) → (i < 4 * n → a ≡ b) → pick (ltb i (4 * n)) a 0xCC ≡ pick (ltb i (4 * n)) b 0xCC

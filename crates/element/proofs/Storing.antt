@@ -34,11 +34,6 @@ unfolding element
 element_stored l last at first second d n h s =
     s ∙ two_stored l at first second (run (word_of d) 0 n) (omega (arith, length_run (word_of d) 0 n, h.inside))
 
--- an element by other names of its first two words
-pub element_by : (l last : List ℕ) (at : ℕ) (a b first second : ℕ) (d : List ℕ) (n : ℕ) → a ≡ first → b ≡ second
-    → last ≡ splice l at (element a b d n) → last ≡ splice l at (element first second d n)
-element_by l last at a b first second d n p q s = s ∙ ap₂ (λ (x y : ℕ). splice l at (element x y d n)) p q
-
 pub event_stored : (l : List ℕ) (at a b marker : ℕ) (f : Frame) (time : ℕ) → at + 2 ≤ length l → a ≡ word0 f
     → b ≡ event_word1 marker f time
     → set (set l at a) (at + 1) b ≡ splice l at (event_element marker f time)

@@ -4,6 +4,7 @@ use Prim.Native.Nat.{ℕ, zero, suc, ◌+◌, ◌*◌, ◌/◌, ◌^◌, ◌<◌
 use mathlib.Core.Path.{◌≡◌, refl, sym, ap, ◌∙◌, subst}
 use mathlib.Core.Bool.{Bool, true, false}
 use mathlib.Core.List.{List, [], ◌∷◌}
+use Rattle.std.specs.Prelude.{Option}
 use native.Mathlib.Omega.{arith}
 use lib.Dec.{eqb}
 use lib.ListN.{get_or}
@@ -13,13 +14,13 @@ use Rattle.words.specs.Bits.{bit, is_set}
 use Rattle.words.specs.Fields.{bits}
 use Rattle.words.specs.Runs.{run}
 use Rattle.words.specs.Bytes.{word_of}
-use Rattle.words.proofs.Bits.{bit_lt}
+use Rattle.words.proofs.BitLaws.{bit_lt}
 use Rattle.words.proofs.Choices.{pick_first, pick_second}
 use Rattle.words.proofs.Runs.{get_or_run}
+use Rattle.frame.specs.Identifier.{IdInKind}
 use Rattle.frame.specs.declared.Frame.{Frame}
-use Rattle.frame.specs.declared.Matched.{Matched}
 use Rattle.element.specs.Fitting.{anmf_of, index_of, InFields}
-use Rattle.element.specs.Word0.{id_in, word0}
+use Rattle.element.specs.Word0.{id_bits, id_in, word0}
 use Rattle.element.specs.Word1.{form_bits, rx_word1, tx_word1, event_word1}
 use Rattle.element.specs.Elements.{element}
 use Rattle.element.specs.Headers.{frame_in, rx_header_in, tx_header_in, event_header_in}
@@ -27,9 +28,20 @@ use Rattle.element.specs.Promises.{FrameStands, FrameAlone, DataStands, AreBytes
 use Rattle.element.specs.Promises.{EventIsByBits, ReadsAreByBits}
 use Rattle.element.specs.declared.Arrival.{Arrival}
 use Rattle.element.specs.declared.TxHeader.{TxHeader}
-use Rattle.element.proofs.Packing.{id_lt, id_long, id_short}
 
 -- ---- the header's words, as written
+
+-- an identifier in its place, which is within 28:0
+id_lt : (xtd : Bool) (id : ℕ) → IdInKind xtd id → id_bits xtd id < 2 ^ 29
+id_lt true id h = omega (arith, h.within)
+id_lt false id h = omega (arith, h.within)
+
+module _ (xtd : Bool) (id : ℕ) where
+  id_long : xtd ≡ true → id ≡ id_bits xtd id
+  id_long a = rw a
+
+  id_short : xtd ≡ false → id * 2 ^ 18 ≡ id_bits xtd id
+  id_short a = rw a
 
 one_le : (b : Bool) → pick b 1 0 ≤ 1
 one_le true = omega arith
@@ -221,11 +233,11 @@ unfolding element
 rx_is_by_bits a d n h i t small = record {
   frame = rx_alone a h i t;
   unmatched = λ e. (
-    anmf_bit a h i t ∙ ap (λ (m : Matched). pick (anmf_of m) 1 0) e,
+    anmf_bit a h i t ∙ ap (λ (m : Option ℕ). pick (anmf_of m) 1 0) e,
     index_bits a h i t ∙ ap index_of e,
   );
   matched = λ k e. (
-    anmf_bit a h i t ∙ ap (λ (m : Matched). pick (anmf_of m) 1 0) e,
+    anmf_bit a h i t ∙ ap (λ (m : Option ℕ). pick (anmf_of m) 1 0) e,
     index_bits a h i t ∙ ap index_of e,
   );
   unnamed = rx_unnamed a h i t;

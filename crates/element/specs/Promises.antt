@@ -1,6 +1,6 @@
 -- Which bit of an element says what; what is stored in it is what is read from it, and nothing else of the memory
 -- changes.
-use Rattle.std.specs.Prelude.{ℕ, ◌+◌, ◌*◌, ◌^◌, ◌<◌, ◌≤◌, min, ◌≡◌, true, false, List, length, get_or, take}
+use Rattle.std.specs.Prelude.{ℕ, ◌+◌, ◌*◌, ◌^◌, ◌<◌, ◌≤◌, min, ◌≡◌, true, false, Some, None, List, length, get_or, take}
 use Rattle.words.specs.Choice.{pick}
 use Rattle.words.specs.Fields.{bits}
 use Rattle.words.specs.Ranges.{range, OnlyIn}
@@ -9,7 +9,6 @@ use Rattle.words.specs.Bytes.{byte_in}
 use Rattle.frame.specs.Malformed.{WellFormed}
 use Rattle.frame.specs.Sent.{sent_bytes}
 use Rattle.frame.specs.declared.Frame.{Frame}
-use Rattle.frame.specs.declared.Matched.TheVariants.{Nothing, Filter}
 use Rattle.element.specs.Fitting.{anmf_of, index_of, InFields}
 use Rattle.element.specs.Elements.{element, rx_element, tx_element, event_element}
 use Rattle.element.specs.Headers.{rx_header_in, tx_header_in, event_header_in, headed}
@@ -50,8 +49,8 @@ pub record DataStands (d : List ℕ) (k word : ℕ) : Type 0 where
 -- the words of an Rx element, of a Tx element and of an event that are written: every bit of each
 pub record RxWords (a : Arrival) (d : List ℕ) (n : ℕ) (ws : List ℕ) : Type 0 where
   pub frame : FrameAlone a.frame (get_or ws 0 0) (get_or ws 1 0)
-  pub unmatched : a.matched ≡ Nothing → (bits 31 31 (get_or ws 1 0) ≡ 1) × (bits 30 24 (get_or ws 1 0) ≡ 0)
-  pub matched : (i : ℕ) → a.matched ≡ Filter i → (bits 31 31 (get_or ws 1 0) ≡ 0) × (bits 30 24 (get_or ws 1 0) ≡ i)
+  pub unmatched : a.matched ≡ None → (bits 31 31 (get_or ws 1 0) ≡ 1) × (bits 30 24 (get_or ws 1 0) ≡ 0)
+  pub matched : (i : ℕ) → a.matched ≡ Some i → (bits 31 31 (get_or ws 1 0) ≡ 0) × (bits 30 24 (get_or ws 1 0) ≡ i)
   pub unnamed : bits 23 22 (get_or ws 1 0) ≡ 0
   pub time : bits 15 0 (get_or ws 1 0) ≡ a.time
   pub bytes : (k : ℕ) → k < n → DataStands d k (get_or ws (2 + k) 0)

@@ -1,10 +1,9 @@
 -- Word 1 of each kind of element: its fields added up. Bits that are not named are 0.
-use Rattle.std.specs.Prelude.{ℕ, ◌+◌, ◌*◌, ◌^◌, Bool}
+use Rattle.std.specs.Prelude.{ℕ, ◌+◌, ◌*◌, ◌^◌, Bool, Option}
 use Rattle.words.specs.Choice.{pick}
 use Rattle.words.specs.Bits.{is_set}
 use Rattle.words.specs.Fields.{bits}
 use Rattle.frame.specs.declared.Frame.{Frame}
-use Rattle.frame.specs.declared.Matched.{Matched}
 use Rattle.element.specs.Fitting.{anmf_of, index_of}
 use Rattle.element.specs.declared.Arrival.{Arrival}
 use Rattle.element.specs.declared.TxHeader.{TxHeader}
@@ -24,7 +23,7 @@ abbrev pub brs_in : ℕ → Bool
 brs_in w = is_set w 20
 
 -- ANMF 31, filter index 30:24, which is 0 if ANMF
-abbrev pub match_bits : Matched → ℕ
+abbrev pub match_bits : Option ℕ → ℕ
 match_bits m = pick (anmf_of m) 1 0 * 2 ^ 31 + index_of m * 2 ^ 24
 
 -- the marker in its place, 31:24, and taken out of it

@@ -5,7 +5,7 @@ pub mod memory;
 pub mod pack;
 pub mod unpack;
 
-use frame::{Frame, Matched};
+use frame::Frame;
 
 // What a receive stores. The frame's bytes are lent beside it.
 #[derive(Clone, Copy)]
@@ -13,11 +13,12 @@ pub struct Arrival {
     pub frame: Frame,
     // the timestamp
     pub time: u16,
-    // the filter that matched
-    pub matched: Matched,
+    // the index of the filter that matched, if one did
+    pub matched: Option<u32>,
 }
 
 // What stands in the first two words of an Rx element.
+// The memory holds ANMF and the index apart, and calls 3 and 5 tell both as they stand: what may not change.
 #[derive(Clone, Copy)]
 pub struct RxHeader {
     pub frame: Frame,
@@ -38,6 +39,9 @@ pub struct RxRead {
 }
 
 // What a request brings, and what stands in the first two words of a Tx element. The frame's bytes are lent beside it.
+// That the frame fits its fields is asked where it is packed and is no invariant, which would be no plainer: a request
+// brings any frame, and it is judged first.
+// The memory holds the marker and the wish apart, and call 10 tells both as they stand: what may not change.
 #[derive(Clone, Copy)]
 pub struct TxHeader {
     pub frame: Frame,
@@ -47,6 +51,7 @@ pub struct TxHeader {
 }
 
 // What stands in an event.
+// Any of the four types may stand there, and call 12 tells it as it stands: what may not change.
 #[derive(Clone, Copy)]
 pub struct EventHeader {
     pub frame: Frame,

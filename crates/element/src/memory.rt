@@ -1,60 +1,94 @@
-// Elements in the lent memory, each named by its first word and its n data words: stored, read, their bytes as sent.
+// Elements in the lent memory: stored, read, their bytes as sent.
 ghost use Rattle.std.specs.Prelude.{◌≡◌, ◌+◌, ◌≤◌, ◌<◌, length};
-ghost use Rattle.words.specs.Runs.{run, splice};
+ghost use Rattle.words.specs.Runs.{splice};
 ghost use Rattle.element.specs.Fitting.{InFields};
 ghost use Rattle.element.specs.Needs.{RxInFields, HasElement};
 ghost use Rattle.element.specs.Elements.{element, rx_element, tx_element, event_element};
 ghost use Rattle.element.specs.Headers.{tx_header_in, event_header_in, headed};
-ghost use Rattle.element.specs.Bytes.{rx_read, read_bytes, sent_byte, sent_from};
+ghost use Rattle.element.specs.Bytes.{rx_read, read_bytes, sent_from};
 
 use crate::{Arrival, EventHeader, RxRead, TxHeader, pack, unpack};
 use frame::Frame;
 use words::WordAddress;
-use words::bytes::smaller;
 
-// Stores an element by its first two words and its data.
-fn store(mem: &mut [u32], at: WordAddress, n: usize, first: u32, second: u32, bytes: &[u8])
-    requires { HasElement mem.old at.0 n }
-    ensures { mem.new
-        ≡ splice mem.old at.0 (element first second bytes.now n) }
-{
-    let start = at.0 as usize;
-    mem[start] = first;
-    mem[start + 1] = second;
-    words::bytes::store(mem, WordAddress(at.0 + 2), n, bytes)
+// An element: where its first word stands, and how many data words it has. That a memory has it is asked by each method
+// and is no invariant, which would be no plainer: reads are lent the memory as `&`, stores as `&mut`.
+#[derive(Clone, Copy)]
+pub struct Element {
+    pub at: WordAddress,
+    pub words: usize,
 }
 
-// Stores a received frame.
-pub fn store_rx(mem: &mut [u32], at: WordAddress, n: usize, a: Arrival, bytes: &[u8])
-    requires { HasElement mem.old at.0 n × RxInFields a }
-    ensures { mem.new ≡ splice mem.old at.0 (rx_element a bytes.now n) }
-{
-    store(
-        mem,
-        at,
-        n,
-        pack::first_word(a.frame),
-        pack::rx_second_word(a),
-        bytes,
-    )
-}
+impl Element {
+    // Stores its first two words and its data.
+    #[tactic(auto, using(crate::proofs::Storing::element_stored))]
+    fn store(self, mem: &mut [u32], first: u32, second: u32, bytes: &[u8])
+        requires { HasElement mem.old self.at.0 self.words }
+        ensures { mem.new
+            ≡ splice mem.old self.at.0 (element first second bytes.now self.words) }
+    {
+        let start = self.at.0 as usize;
+        mem[start] = first;
+        mem[start + 1] = second;
+        words::bytes::store(mem, WordAddress(self.at.0 + 2), self.words, bytes)
+    }
 
-// Stores a frame to send.
-pub fn store_tx(mem: &mut [u32], at: WordAddress, n: usize, h: TxHeader, bytes: &[u8])
-    requires { HasElement mem.old at.0 n × InFields h.frame }
-    ensures { mem.new ≡ splice mem.old at.0 (tx_element h bytes.now n) }
-{
-    store(
-        mem,
-        at,
-        n,
-        pack::first_word(h.frame),
-        pack::tx_second_word(h),
-        bytes,
-    )
+    // Stores a received frame.
+    pub fn store_rx(self, mem: &mut [u32], a: Arrival, bytes: &[u8])
+        requires { HasElement mem.old self.at.0 self.words × RxInFields a }
+        ensures { mem.new ≡ splice mem.old self.at.0 (rx_element a bytes.now self.words) }
+    {
+        self.store(
+            mem,
+            pack::first_word(a.frame),
+            pack::rx_second_word(a),
+            bytes,
+        )
+    }
+
+    // Stores a frame to send.
+    pub fn store_tx(self, mem: &mut [u32], h: TxHeader, bytes: &[u8])
+        requires { HasElement mem.old self.at.0 self.words × InFields h.frame }
+        ensures { mem.new ≡ splice mem.old self.at.0 (tx_element h bytes.now self.words) }
+    {
+        self.store(
+            mem,
+            pack::first_word(h.frame),
+            pack::tx_second_word(h),
+            bytes,
+        )
+    }
+
+    // Reads a received frame: as many bytes as the frame has and the element holds go to the front of out.
+    #[tactic(auto, using(crate::proofs::Readings::rx_read_is, crate::proofs::Readings::rx_bytes))]
+    pub fn read_rx(self, mem: &[u32], out: &mut [u8]) -> RxRead
+        requires { HasElement mem.now self.at.0 self.words × (length out.old ≡ 64) }
+        ensures { (result ≡ rx_read mem.now self.at.0 self.words)
+            × (out.new ≡ splice out.old 0 (read_bytes mem.now self.at.0 self.words)) }
+    {
+        let start = self.at.0 as usize;
+        let header = unpack::rx_header(mem[start], mem[start + 1]);
+        let count = (header.frame.data_length() as usize).min(4 * self.words);
+        words::bytes::load(mem, WordAddress(self.at.0 + 2), count, out);
+        RxRead {
+            header,
+            count: count as u32,
+        }
+    }
+
+    // Writes the first bytes as sent to the front of out: 0xCC past the data words.
+    pub fn write_sent(self, mem: &[u32], count: usize, out: &mut [u8])
+        requires { HasElement mem.now self.at.0 self.words × (count ≤ length out.old) }
+        ensures { out.new ≡ splice out.old 0 (sent_from mem.now self.at.0 self.words count) }
+    {
+        let held = count.min(4 * self.words);
+        words::bytes::load(mem, WordAddress(self.at.0 + 2), held, out);
+        out[held..count].fill(0xCC);
+    }
 }
 
 // Stores an event.
+#[tactic(auto, using(crate::proofs::Storing::event_stored))]
 pub fn store_event(mem: &mut [u32], at: WordAddress, marker: u8, f: Frame, time: u16)
     requires { (at.0 + 2 ≤ length mem.old) × InFields f }
     ensures { mem.new ≡ splice mem.old at.0 (event_element marker f time) }
@@ -62,24 +96,6 @@ pub fn store_event(mem: &mut [u32], at: WordAddress, marker: u8, f: Frame, time:
     let start = at.0 as usize;
     mem[start] = pack::first_word(f);
     mem[start + 1] = pack::event_second_word(marker, f, time);
-}
-
-// Reads a received frame: as many bytes as the frame has and the element holds go to the front of out.
-pub fn read_rx(mem: &[u32], at: WordAddress, n: usize, out: &mut [u8]) -> RxRead
-    requires { HasElement mem.now at.0 n × (length out.old ≡ 64) }
-    ensures { (result ≡ rx_read mem.now at.0 n)
-        × (out.new ≡ splice out.old 0 (read_bytes mem.now at.0 n)) }
-{
-    let start = at.0 as usize;
-    let header = unpack::rx_header(mem[start], mem[start + 1]);
-    let f = header.frame;
-    let len = frame::data_length(f.rtr, f.fdf, f.dlc);
-    let count = smaller(len as usize, 4 * n);
-    words::bytes::load(mem, WordAddress(at.0 + 2), count, out);
-    RxRead {
-        header,
-        count: count as u32,
-    }
 }
 
 // Reads all but the bytes of a frame to send.
@@ -98,40 +114,4 @@ pub fn read_event(mem: &[u32], at: WordAddress) -> EventHeader
 {
     let start = at.0 as usize;
     unpack::event_header(mem[start], mem[start + 1])
-}
-
-// Byte i as sent.
-fn sent_byte(mem: &[u32], at: WordAddress, n: usize, i: usize) -> u8
-    requires { HasElement mem.now at.0 n }
-    ensures { result ≡ sent_byte mem.now at.0 n i }
-{
-    let start = at.0 as usize;
-    if i < 4 * n {
-        let word = mem[start + 2 + i / 4];
-        return words::bytes::byte_of(word, i % 4);
-    }
-    0xCC
-}
-
-// Writes so many bytes as sent, from byte first on, to their places in out.
-fn write_rest(mem: &[u32], at: WordAddress, n: usize, first: usize, count: usize, out: &mut [u8])
-    requires { HasElement mem.now at.0 n × (first + count ≤ length out.old) }
-    ensures { out.new
-        ≡ splice out.old first (run (λ i. sent_byte mem.now at.0 n (first + i)) 0 count) }
-{
-    let mut k = 0;
-    while k < count {
-        out[first + k] = sent_byte(mem, at, n, first + k);
-        k += 1;
-    }
-}
-
-// Writes the first bytes as sent to the front of out.
-pub fn write_sent(mem: &[u32], at: WordAddress, n: usize, count: usize, out: &mut [u8])
-    requires { HasElement mem.now at.0 n × (count ≤ length out.old) }
-    ensures { out.new ≡ splice out.old 0 (sent_from mem.now at.0 n count) }
-{
-    let held = smaller(count, 4 * n);
-    words::bytes::load(mem, WordAddress(at.0 + 2), held, out);
-    write_rest(mem, at, n, held, count - held, out)
 }

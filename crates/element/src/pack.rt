@@ -7,7 +7,7 @@ ghost use Rattle.element.specs.Word0.{id_bits, word0};
 ghost use Rattle.element.specs.Word1.{form_bits, match_bits, marker_bits, rx_word1, tx_word1, event_word1};
 
 use crate::{Arrival, TxHeader};
-use frame::{Frame, Matched};
+use frame::Frame;
 use words::bit_of;
 
 // The identifier in its place.
@@ -19,6 +19,7 @@ fn id_bits(xtd: bool, id: u32) -> u32
 }
 
 // Word 0 of every element.
+#[tactic(auto, unfolding(crate::specs::Word0::word0))]
 pub fn first_word(f: Frame) -> u32
     requires { InFields f }
     ensures { result ≡ word0 f }
@@ -30,6 +31,7 @@ pub fn first_word(f: Frame) -> u32
 }
 
 // Bits 21:16 of word 1, the same in every element.
+#[tactic(auto, unfolding(crate::specs::Word1::form_bits))]
 fn form_bits(f: Frame) -> u32
     requires { f.dlc ≤ 15 }
     ensures { (result ≡ form_bits f) × (result ≤ 0x3F * 2 ^ 16) }
@@ -38,13 +40,13 @@ fn form_bits(f: Frame) -> u32
 }
 
 // The match in its place.
-fn match_bits(m: Matched) -> u32
+fn match_bits(m: Option<u32>) -> u32
     requires { index_of m < 128 }
     ensures { (result ≡ match_bits m) × (result ≤ 2 ^ 31) }
 {
     match m {
-        Matched::Nothing => 0x8000_0000,
-        Matched::Filter(i) => i * 0x100_0000,
+        None => 0x8000_0000,
+        Some(i) => i * 0x100_0000,
     }
 }
 
@@ -56,6 +58,7 @@ fn marker_bits(marker: u8) -> u32
 }
 
 // Word 1 of an Rx element.
+#[tactic(auto, unfolding(crate::specs::Word1::rx_word1))]
 pub fn rx_second_word(a: Arrival) -> u32
     requires { RxInFields a }
     ensures { result ≡ rx_word1 a }
@@ -65,6 +68,7 @@ pub fn rx_second_word(a: Arrival) -> u32
 }
 
 // Word 1 of a Tx element.
+#[tactic(auto, unfolding(crate::specs::Word1::tx_word1))]
 pub fn tx_second_word(h: TxHeader) -> u32
     requires { InFields h.frame }
     ensures { result ≡ tx_word1 h }
@@ -73,6 +77,7 @@ pub fn tx_second_word(h: TxHeader) -> u32
 }
 
 // Word 1 of an event.
+#[tactic(auto, unfolding(crate::specs::Word1::event_word1))]
 pub fn event_second_word(marker: u8, f: Frame, time: u16) -> u32
     requires { InFields f }
     ensures { result ≡ event_word1 marker f time }

@@ -22,6 +22,7 @@ fn id_in(xtd: bool, first: u32) -> u32
 }
 
 // The frame, in every kind of element.
+#[tactic(auto, unfolding(crate::specs::Headers::frame_in))]
 fn frame_in(first: u32, second: u32) -> Frame
     ensures { (result ≡ frame_in first second) × InFields result }
 {
@@ -49,6 +50,7 @@ fn time_in(second: u32) -> u32
     second % 0x1_0000
 }
 
+#[tactic(auto, unfolding(crate::specs::Headers::rx_header_in))]
 pub fn rx_header(first: u32, second: u32) -> RxHeader
     ensures { (result ≡ rx_header_in first second) × InFields result.frame }
 {
@@ -61,6 +63,7 @@ pub fn rx_header(first: u32, second: u32) -> RxHeader
     }
 }
 
+#[tactic(auto, unfolding(crate::specs::Headers::tx_header_in))]
 pub fn tx_header(first: u32, second: u32) -> TxHeader
     ensures { (result ≡ tx_header_in first second) × InFields result.frame }
 {
@@ -72,6 +75,7 @@ pub fn tx_header(first: u32, second: u32) -> TxHeader
     }
 }
 
+#[tactic(auto, unfolding(crate::specs::Headers::event_header_in))]
 pub fn event_header(first: u32, second: u32) -> EventHeader
     ensures { (result ≡ event_header_in first second) × InFields result.frame × (result.marker < 256) }
 {

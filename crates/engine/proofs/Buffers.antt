@@ -9,7 +9,7 @@ use native.Mathlib.Nat.{lt_of_le_of_lt}
 use native.Mathlib.Omega.{arith}
 use lib.Dec.{eqb, leb}
 use Rattle.words.specs.Bits.{is_set, with_bit, without_bit}
-use Rattle.words.proofs.Bits.{set_same, set_other, set_lt, cleared_same, cleared_other, cleared_le}
+use Rattle.words.proofs.BitLaws.{set_same, set_other, set_lt, cleared_same, cleared_other, cleared_le}
 use Rattle.ring.specs.Rings.{Fit, held}
 use Rattle.ring.specs.declared.Ring.{Ring}
 use Rattle.registers.specs.Fields.{dedicated, shared, tx_count, is_queue}

@@ -2,15 +2,13 @@
 -- Assumes nothing.
 use Prim.Native.Nat.{ℕ, ◌≤◌, ◌<◌}
 use mathlib.Core.Path.{◌≡◌, sym, ◌∙◌}
-use mathlib.Core.Bool.{Bool, true, false, not, ◌||◌}
+use mathlib.Core.Bool.{Bool, true, false}
 use native.Mathlib.Omega.{arith}
 use Rattle.words.specs.Choice.{pick}
 use Rattle.words.proofs.Choices.{pick_first, pick_second}
-use Rattle.ring.specs.Rings.{fits}
-use Rattle.registers.specs.Fields.{fifo_word, event_size, shared, is_queue}
-use Rattle.registers.specs.Kinds.{field, rxfc_count}
+use Rattle.registers.specs.Fields.{shared, is_queue}
 use Rattle.registers.specs.declared.Registers.{Registers}
-use Rattle.engine.specs.Fitness.{shared_ring_size, rings_unfit}
+use Rattle.engine.specs.Fitness.{shared_ring_size}
 use Rattle.engine.specs.Needs.{SharedFits, SharedCan}
 use Rattle.engine.specs.declared.state.State.{State}
 
@@ -33,16 +31,5 @@ shared_most r = go (is_queue r)
     go true = omega arith
     go false = omega arith
 
-pub can_look : (s : State) (size p : ℕ) → SharedCan s → size ≡ shared_ring_size s.regs → p < size → SharedFits s p
-can_look s size p c e h = record { ring = c.ring; bit = omega (arith, shared_most s.regs, c.few) }
-
--- ---- the four rings
-
-module _ (s : State) (n0 n1 n2 n3 : ℕ) (e0 : n0 ≡ field rxfc_count s.regs.rxf0c.word)
-    (e1 : n1 ≡ field rxfc_count s.regs.rxf1c.word) (e2 : n2 ≡ event_size s.regs) (e3 : n3 ≡ shared_ring_size s.regs)
-  where
-    pub rings_tested : (a b c d : Bool) → a ≡ fits s.fifo0 n0 → b ≡ fits s.fifo1 n1 → c ≡ fits s.events n2
-        → d ≡ fits s.shared n3
-        → (not a || not b || not c || not d) ≡ rings_unfit s
-    unfolding fifo_word
-    rings_tested a b c d p q t u = simp (p, q, t, u, e0, e1, e2, e3)
+pub can_look : (s : State) (p : ℕ) → SharedCan s → p < shared_ring_size s.regs → SharedFits s p
+can_look s p c h = record { ring = c.ring; bit = omega (arith, shared_most s.regs, c.few) }

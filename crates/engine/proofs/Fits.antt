@@ -6,7 +6,7 @@ use mathlib.Core.Bool.{Bool, true, false}
 use mathlib.Core.Logic.{inl}
 use native.Mathlib.Omega.{arith}
 use Rattle.words.specs.Bits.{without_mask}
-use Rattle.words.proofs.Bits.{bit_of_and}
+use Rattle.words.proofs.BitLaws.{bit_of_and}
 use Rattle.layout.proofs.Memory.{not_both}
 use Rattle.engine.specs.Fitness.{unfit}
 use Rattle.engine.specs.Flags.{cleared}

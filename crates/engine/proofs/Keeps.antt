@@ -1,13 +1,12 @@
--- The flags of what is kept, one law for each case, and what is shown of all cases of keeping.
+-- What is shown of all cases of keeping.
 -- Assumes nothing.
-use Prim.Native.Nat.{ℕ, ◌+◌, ◌≤◌, ◌<◌}
-use mathlib.Core.Path.{◌≡◌, refl, ap, ◌∙◌}
+use Rattle.std.proofs.Common.{Some, None}
+use Prim.Native.Nat.{ℕ, ◌+◌, ◌<◌}
+use mathlib.Core.Path.{◌≡◌, refl}
 use borrow.Author.Tests.{lt-ltb, le-ltb}
 use Rattle.ring.specs.Rings.{put_place, pushed, overwritten}
 use Rattle.ring.specs.declared.Ring.{Ring}
 use Rattle.places.specs.Slots.{take_rule}
-use Rattle.places.specs.declared.Slot.{Slot}
-use Rattle.places.specs.declared.Slot.TheVariants.{At, Lost}
 use Rattle.places.specs.declared.Taken.{Taken}
 use Rattle.places.proofs.Takes.{take_cases, taken_within}
 use Rattle.engine.specs.Flags.{raised, filling}
@@ -17,44 +16,21 @@ use Rattle.engine.specs.declared.keeping.Keeper.{Keeper}
 use Rattle.engine.specs.declared.keeping.Kept.{Kept}
 use Rattle.engine.specs.declared.state.Record.{Record}
 
-module _ (k : Keeper) (fill : ℕ) (slot : Slot) (r n : Record) where
-  pub flags_rose : fill < k.size → n ≡ filling r k.first (fill + 1) k.mark k.size
-      → n ≡ kept_flags k fill slot r
-  unfolding kept_flags
-  flags_rose h e = simp (lt-ltb _ _ h, e)
-
-  pub flags_over : k.size ≤ fill → (p : ℕ) → slot ≡ At p → n ≡ raised r k.first → n ≡ kept_flags k fill slot r
-  unfolding kept_flags
-  flags_over h p y e = simp (le-ltb _ _ h, y, e)
-
-  pub flags_lost : k.size ≤ fill → slot ≡ Lost → n ≡ raised r (k.first + 3) → n ≡ kept_flags k fill slot r
-  unfolding kept_flags
-  flags_lost h y e = simp (le-ltb _ _ h, y, e)
-
-pub ruleset flagged = (flags_rose, flags_over, flags_lost)
-
-pub kept_so : (k : Keeper) (q : Ring) (r : Record) (t : Taken) (n : Record) → t ≡ take_rule k.size k.overwrites q
-    → n ≡ kept_flags k q.fill t.slot r → record { slot = t.slot; ring = t.ring; recorded = n } ≡ keep_rule k q r
-unfolding keep_rule
-kept_so k q r t n e f =
-    ap (λ (m : Record). record { slot = t.slot; ring = t.ring; recorded = m }) f
-    ∙ ap (λ (x : Taken). record { slot = x.slot; ring = x.ring; recorded = kept_flags k q.fill x.slot r }) e
-
 -- it is lost, with its flag, and nothing else changes
 abbrev pub losing : Keeper → Ring → Record → Kept
-losing k q r = record { slot = Lost; ring = q; recorded = raised r (k.first + 3) }
+losing k q r = record { slot = None; ring = q; recorded = raised r (k.first + 3) }
 
 -- what is shown of every case is shown of what is kept
 module _ (k : Keeper) (q : Ring) (r : Record) (P : Kept → Type 0)
     (put : q.fill < k.size
     → P (record {
-      slot = At (put_place q k.size);
+      slot = Some (put_place q k.size);
       ring = pushed q;
       recorded = filling r k.first (q.fill + 1) k.mark k.size;
     }))
     (lost : P (losing k q r))
     (over : 0 < k.size
-    → P (record { slot = At q.oldest; ring = overwritten q k.size; recorded = raised r k.first })) where
+    → P (record { slot = Some q.oldest; ring = overwritten q k.size; recorded = raised r k.first })) where
   pub keep_cases : P (keep_rule k q r)
   unfolding keep_rule kept_flags
   keep_cases =
@@ -74,7 +50,7 @@ unfolding keep_rule
 kept_ring k q r = refl
 
 -- a slot's place is one of the ring's
-pub kept_within : (k : Keeper) (q : Ring) (r : Record) → CanKeep k q → (p : ℕ) → (keep_rule k q r).slot ≡ At p
+pub kept_within : (k : Keeper) (q : Ring) (r : Record) → CanKeep k q → (p : ℕ) → (keep_rule k q r).slot ≡ Some p
     → p < k.size
 unfolding keep_rule
 kept_within k q r h p e = taken_within k.size k.overwrites q h.ring p e

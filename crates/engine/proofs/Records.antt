@@ -8,7 +8,7 @@ use native.Mathlib.Omega.{arith}
 use lib.Dec.{eqb, leb}
 use Rattle.words.specs.Choice.{pick}
 use Rattle.words.specs.Fields.{in_field}
-use Rattle.words.proofs.Bits.{set_other}
+use Rattle.words.proofs.BitLaws.{set_other}
 use Rattle.ring.specs.Rings.{Fit}
 use Rattle.ring.specs.declared.Ring.{Ring}
 use Rattle.ring.proofs.Fitness.{fit_pushed, fit_overwritten}

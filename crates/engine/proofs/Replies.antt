@@ -1,18 +1,17 @@
--- No two replies of the code mean the same.
+-- No two answers of the code mean the same.
 -- Assumes nothing.
+use Rattle.std.proofs.Common.{Result, Ok, Err}
 use Prim.Native.Nat.{ℕ}
 use mathlib.Core.Path.{◌≡◌, refl, sym, ap, ◌∙◌}
 use lib.Dec.{eqb}
 use Rattle.words.specs.Choice.{pick}
 use Rattle.shape.specs.Calls.{Says, refuses, answers}
-use Rattle.engine.specs.Answers.{number_of, replied}
-use Rattle.engine.specs.Promises.{OneReply}
+use Rattle.engine.specs.Answers.{number_of, saying, replied, left}
+use Rattle.engine.specs.Promises.{OneAnswer, OneReply}
 use Rattle.engine.specs.declared.refusals.Refusal.{Refusal}
 use Rattle.engine.specs.declared.refusals.Refusal.TheVariants.{Unfit, Malformed, FdOff, NoSuch, AlreadyPending}
 use Rattle.engine.specs.declared.refusals.Refusal.TheVariants.{NoneFree, InSharedFifo, NotPending, NotTheChoice}
 use Rattle.engine.specs.declared.refusals.Refusal.TheVariants.{NotHeld, WrongOutput}
-use Rattle.engine.specs.declared.refusals.Reply.{Reply}
-use Rattle.engine.specs.declared.refusals.Reply.TheVariants.{Done, Refused}
 
 -- the refusal that has a number
 abbrev pub refusal_of : ℕ → Refusal
@@ -41,16 +40,26 @@ refusal_back NotTheChoice = refl
 refusal_back NotHeld = refl
 refusal_back WrongOutput = refl
 
-pub one_number : (a b : Refusal) → number_of a ≡ number_of b → a ≡ b
-one_number a b e = sym (refusal_back a) ∙ ap refusal_of e ∙ refusal_back b
+-- an answer can be made again of what it means
+abbrev pub answer_of : {A : Type 0} → Says A → Result A Refusal
+answer_of (answers a) = Ok a
+answer_of (refuses n) = Err (refusal_of n.number)
 
-abbrev pub reply_of : Says (Unit {0}) → Reply
-reply_of (refuses n) = Refused (refusal_of n.number)
-reply_of (answers u) = Done
+pub answer_back : {A : Type 0} (r : Result A Refusal) → answer_of (saying (λ a. a) r) ≡ r
+answer_back (Ok a) = refl
+answer_back (Err n) = ap Err (refusal_back n)
 
-pub reply_back : (r : Reply) → reply_of (replied r) ≡ r
-reply_back Done = refl
-reply_back (Refused n) = ap Refused (refusal_back n)
+pub one_answer : OneAnswer
+one_answer A a b e = sym (answer_back a) ∙ ap answer_of e ∙ answer_back b
 
 pub one_reply : OneReply
-one_reply a b e = sym (reply_back a) ∙ ap reply_of e ∙ reply_back b
+one_reply = one_answer (Unit {0})
+
+-- the same of a call that tells nothing, and answers what it leaves
+abbrev pub made_of : {A : Type 0} → Says (Unit {0}) → A → Result A Refusal
+made_of (answers u) a = Ok a
+made_of (refuses n) a = Err (refusal_of n.number)
+
+pub made_back : {A : Type 0} (old : A) (r : Result A Refusal) → made_of (replied r) (left (λ a. a) old r) ≡ r
+made_back old (Ok a) = refl
+made_back old (Err n) = ap Err (refusal_back n)

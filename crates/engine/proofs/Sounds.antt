@@ -1,7 +1,9 @@
 -- A state is fit exactly where the facts of a sound one hold.
 -- Assumes nothing.
+use Rattle.std.proofs.Common.{Result, Ok, Err}
+use Rattle.std.specs.Prelude.{is_err}
 use Prim.Native.Nat.{ℕ, ◌+◌, ◌/◌, ◌^◌, ◌<◌}
-use mathlib.Core.Path.{◌≡◌, refl, sym, ap, ap₂, ◌∙◌}
+use mathlib.Core.Path.{◌≡◌, refl, sym, ap, ◌∙◌}
 use mathlib.Core.Bool.{Bool, true, false, not, ◌&&◌, ◌||◌}
 use borrow.Author.Tests.{eqb-true, eq-eqb, ltb-false, le-ltb, not-false}
 use native.Mathlib.Nat.{div-lt_iff_lt-mul, div-eq_of_lt}
@@ -12,21 +14,22 @@ use Rattle.words.specs.Bits.{is_set}
 use Rattle.words.specs.Choice.{pick}
 use Rattle.words.specs.Fields.{only_named}
 use Rattle.words.specs.Least.{least_from}
-use Rattle.words.specs.Rules.{Ruling, is_allowed}
+use Rattle.words.specs.Rules.{Ruling, allowed, is_allowed}
 use Rattle.words.proofs.Choices.{or_neither}
 use Rattle.words.proofs.Lowest.{least_below, least_absent}
-use Rattle.words.proofs.Rulings.{allowed_is}
+use Rattle.words.proofs.Rulings.{allowed_is, held_off}
 use Rattle.words.proofs.Unnamed.{unnamed, agrees, below32}
 use Rattle.ring.specs.Rings.{Fit, fits, held}
 use Rattle.ring.specs.declared.Ring.{Ring}
 use Rattle.ring.proofs.Fitness.{fit_of_fits, fits_of_fit}
 use Rattle.registers.specs.Kinds.{field, rxfc_count}
 use Rattle.registers.specs.declared.Registers.{Registers}
-use Rattle.shape.specs.Refusals.{Refusal}
-use Rattle.layout.specs.Verdict.{meaning, verdict}
-use Rattle.layout.specs.declared.check.Verdict.{Verdict}
+use Rattle.shape.specs.Refusals.{Refusal as Told}
+use Rattle.layout.specs.Verdict.{meaning, verdict, plain}
+use Rattle.layout.specs.declared.check.LayoutRefusal.{LayoutRefusal}
 use Rattle.layout.proofs.Accepted.{accepted_is_legal}
 use Rattle.registers.specs.Fields.{fifo_word, fifo_size, event_size, dedicated, tx_count}
+use Rattle.engine.specs.Calls.{◌when◌}
 use Rattle.engine.specs.Fitness.{registers_unfit, shared_ring_size, rings_unfit, past, bits_unfit, differs}
 use Rattle.engine.specs.Fitness.{shared_unfit, flag_fields, flags_unfit, unfit, Sound, FlagsSound}
 use Rattle.engine.specs.Needs.{SharedCan}
@@ -55,6 +58,11 @@ tested_fit q size f = ap not (fits_of_fit q size f)
 shared_small : (r : Registers) → shared_ring_size r < 2 ^ 31
 shared_small r = omega (arith, shared_most r)
 
+-- a layout that is tested to be accepted
+accepted : (v : Result (Unit {0}) LayoutRefusal) → false ≡ is_err v → meaning v ≡ allowed
+accepted (Ok u) e = refl
+accepted (Err n) e = cc
+
 -- one bit against another
 same_bit : (h b : Bool) → (h && not b || not h && b) ≡ false → b ≡ h
 same_bit true true e = refl
@@ -68,34 +76,31 @@ bit_same true false e = sym e
 bit_same false true e = e
 bit_same false false e = refl
 
+-- of four tests none holds
+none_of_four : (a b c d : Bool) → (a || b || c || d) ≡ false → (a ≡ false) × (b ≡ false) × (c ≡ false) × (d ≡ false)
+none_of_four true b c d e = cc
+none_of_four false true c d e = cc
+none_of_four false false true d e = cc
+none_of_four false false false d e = (refl, refl, refl, e)
+
 module _ (s : State) where
   rings_of : rings_unfit s ≡ false
       → Fit s.fifo0 (fifo_size s.regs 0) × Fit s.fifo1 (fifo_size s.regs 1) × Fit s.events
       (event_size s.regs) × Fit s.shared (shared_ring_size s.regs)
   rings_of e =
-      let d =
-      or_neither
-      (not (fits s.fifo0 (fifo_size s.regs 0)) || not (fits s.fifo1 (fifo_size s.regs 1)) || not
-      (fits s.events (event_size s.regs))) (not (fits s.shared (shared_ring_size s.regs))) e in
-      let c =
-      or_neither (not (fits s.fifo0 (fifo_size s.regs 0)) || not (fits s.fifo1 (fifo_size s.regs 1)))
-      (not (fits s.events (event_size s.regs))) d.0 in
-      let b =
-      or_neither (not (fits s.fifo0 (fifo_size s.regs 0))) (not (fits s.fifo1 (fifo_size s.regs 1))) c.0 in (
-        fit_tested s.fifo0 (fifo_size s.regs 0) (omega arith) b.0,
-        fit_tested s.fifo1 (fifo_size s.regs 1) (omega arith) b.1,
-        fit_tested s.events (event_size s.regs) (omega arith) c.1,
-        fit_tested s.shared (shared_ring_size s.regs) (shared_small s.regs) d.1,
+      let p = none_of_four _ _ _ _ e in (
+        fit_tested s.fifo0 (fifo_size s.regs 0) (omega arith) p.0,
+        fit_tested s.fifo1 (fifo_size s.regs 1) (omega arith) p.1,
+        fit_tested s.events (event_size s.regs) (omega arith) p.2,
+        fit_tested s.shared (shared_ring_size s.regs) (shared_small s.regs) p.3,
       )
 
   -- the shared places can be looked at where the layout is accepted and the rings fit
-  pub shared_can : (words : ℕ) (v : Verdict) → meaning v ≡ verdict s.regs words → (a b : Bool)
-      → a ≡ is_allowed (meaning v) → a ≡ true → b ≡ rings_unfit s → b ≡ false → SharedCan s
-  shared_can words v e a b t y q n = record {
-    ring = (rings_of (sym q ∙ n)).3;
-    few =
-        ((accepted_is_legal s.regs words).0
-        (allowed_is (verdict s.regs words) (sym (t ∙ ap is_allowed e) ∙ y))).counted.together;
+  pub shared_can : (words : ℕ) (v : Result (Unit {0}) LayoutRefusal) → meaning v ≡ verdict s.regs words
+      → false ≡ is_err v → false ≡ rings_unfit s → SharedCan s
+  shared_can words v e a b = record {
+    ring = (rings_of (sym b)).3;
+    few = ((accepted_is_legal s.regs words).0 (sym e ∙ accepted v a)).counted.together;
   }
 
   held_of : shared_unfit s ≡ false → (p : ℕ) → p < shared_ring_size s.regs
@@ -127,25 +132,15 @@ module _ (s : State) (r : Record) (words : ℕ) where
       × (shared_unfit s ≡ false) × (flags_unfit r ≡ false)
   unfolding unfit
   parts e =
-      let d =
-      or_neither (registers_unfit s.regs words || rings_unfit s || bits_unfit s || shared_unfit s) (flags_unfit r) e in
-      let c = or_neither (registers_unfit s.regs words || rings_unfit s || bits_unfit s) (shared_unfit s) d.0 in
-      let b = or_neither (registers_unfit s.regs words || rings_unfit s) (bits_unfit s) c.0 in
-      let a = or_neither (registers_unfit s.regs words) (rings_unfit s) b.0 in
-      (a.0, a.1, b.1, c.1, d.1)
+      let d = or_neither _ (flags_unfit r) e in
+      let p = none_of_four (registers_unfit s.regs words) _ _ _ d.0 in
+      (p.0, p.1, p.2, p.3, d.1)
 
   pub sound_of : unfit s r words ≡ false → Sound s words
   sound_of e =
       let p = parts e in
       let q = rings_of s p.1 in
-      let c =
-      or_neither
-      (past s.pending (tx_count s.regs) || past s.sent (tx_count s.regs) || past s.cancelled
-      (tx_count s.regs)) (past s.newdata s.regs.buffers) p.2 in
-      let b =
-      or_neither (past s.pending (tx_count s.regs) || past s.sent (tx_count s.regs))
-      (past s.cancelled (tx_count s.regs)) c.0 in
-      let a = or_neither (past s.pending (tx_count s.regs)) (past s.sent (tx_count s.regs)) b.0 in
+      let b = none_of_four _ _ _ _ p.2 in
       record {
         legal =
             (accepted_is_legal s.regs words).0
@@ -155,10 +150,10 @@ module _ (s : State) (r : Record) (words : ℕ) where
         fifo1 = q.1;
         events = q.2;
         shared = q.3;
-        pending = below_past s.pending (tx_count s.regs) a.0;
-        sent = below_past s.sent (tx_count s.regs) a.1;
-        cancelled = below_past s.cancelled (tx_count s.regs) b.1;
-        newdata = below_past s.newdata s.regs.buffers c.1;
+        pending = below_past s.pending (tx_count s.regs) b.0;
+        sent = below_past s.sent (tx_count s.regs) b.1;
+        cancelled = below_past s.cancelled (tx_count s.regs) b.2;
+        newdata = below_past s.newdata s.regs.buffers b.3;
         held_bits = held_of s p.3;
       }
 
@@ -172,28 +167,24 @@ module _ (s : State) (r : Record) (words : ℕ) where
   unfolding unfit agrees below32
   fit_of h f =
       let a : registers_unfit s.regs words ≡ false =
-      ap (λ (v : Ruling Refusal). not (is_allowed v)) ((accepted_is_legal s.regs words).1 h.legal) in
+      ap (λ (v : Ruling Told). not (is_allowed v)) ((accepted_is_legal s.regs words).1 h.legal) in
       let b : rings_unfit s ≡ false =
-      ap₂ ◌||◌
-      (ap₂ ◌||◌
-      (ap₂ ◌||◌ (tested_fit s.fifo0 (fifo_size s.regs 0) h.fifo0)
-      (tested_fit s.fifo1 (fifo_size s.regs 1) h.fifo1))
-      (tested_fit s.events (event_size s.regs) h.events))
-      (tested_fit s.shared (shared_ring_size s.regs) h.shared) in
+      simp (
+        tested_fit s.fifo0 (fifo_size s.regs 0) h.fifo0,
+        tested_fit s.fifo1 (fifo_size s.regs 1) h.fifo1,
+        tested_fit s.events (event_size s.regs) h.events,
+        tested_fit s.shared (shared_ring_size s.regs) h.shared,
+      ) in
       let c : bits_unfit s ≡ false =
-      ap₂ ◌||◌
-      (ap₂ ◌||◌
-      (ap₂ ◌||◌ (past_below s.pending (tx_count s.regs) h.pending)
-      (past_below s.sent (tx_count s.regs) h.sent))
-      (past_below s.cancelled (tx_count s.regs) h.cancelled))
-      (past_below s.newdata s.regs.buffers h.newdata) in
+      simp (
+        past_below s.pending (tx_count s.regs) h.pending,
+        past_below s.sent (tx_count s.regs) h.sent,
+        past_below s.cancelled (tx_count s.regs) h.cancelled,
+        past_below s.newdata s.regs.buffers h.newdata,
+      ) in
       let d : shared_unfit s ≡ false = of-held s h.held_bits in
       let g : flags_unfit r ≡ false = ap not (eq-eqb _ _ ((unnamed flag_fields tt tt tt r.flags).1 f)) in
-      ap₂ ◌||◌ (ap₂ ◌||◌ (ap₂ ◌||◌ (ap₂ ◌||◌ a b) c) d) g
-
--- the same, as the calls test it
-pub sound_tested : (s : State) (r : Record) (words : ℕ) (b : Bool) → b ≡ unfit s r words → b ≡ false → Sound s words
-sound_tested s r words b e n = sound_of s r words (sym e ∙ n)
+      simp (a, b, c, d, g)
 
 -- the ring of FIFO 0 or 1
 pub ring_fits : (s : State) (words fifo : ℕ) → Sound s words → Fit (fifo_ring s fifo) (fifo_size s.regs fifo)
@@ -204,6 +195,22 @@ ring_fits s words fifo h = go (eqb fifo 0)
         → Fit (pick b s.fifo0 s.fifo1) (field rxfc_count (pick b s.regs.rxf0c.word s.regs.rxf1c.word))
     go true = h.fifo0
     go false = h.fifo1
+
+-- the same, where a call found the state fit: the rings are of their sizes
+module _ (s : State) (r : Record) (words : ℕ) (e : allowed ≡ 20 when unfit s r words) where
+  pub found_sound : Sound s words
+  found_sound = sound_of s r words (held_off (unfit s r words) (plain 20) (sym e))
+
+  pub found_fifo : (fifo : ℕ) → Fit (fifo_ring s fifo) (fifo_size s.regs fifo)
+  found_fifo fifo = ring_fits s words fifo found_sound
+
+  pub found_events : Fit s.events (event_size s.regs)
+  found_events = found_sound.events
+
+  pub found_shared : Fit s.shared (shared_ring_size s.regs)
+  found_shared = found_sound.shared
+
+pub ruleset found = (found_fifo, found_events, found_shared)
 
 pub fit_is_sound : FitIsSound
 fit_is_sound s r words = (λ e. (sound_of s r words e, flags_of s r words e), λ h. fit_of s r words h.0 h.1)

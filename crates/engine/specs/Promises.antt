@@ -1,10 +1,10 @@
 -- What is promised of the engine: statements only.
-use Rattle.std.specs.Prelude.{ℕ, ◌≡◌, true, false, ◌↔◌}
+use Rattle.std.specs.Prelude.{ℕ, Result, ◌≡◌, true, false, ◌↔◌}
 use Rattle.layout.specs.Legal.{WrongMemory}
-use Rattle.engine.specs.Answers.{replied}
+use Rattle.engine.specs.Answers.{saying, replied}
 use Rattle.engine.specs.Fitness.{unfit, Sound, FlagsSound}
 use Rattle.engine.specs.States.{never_started}
-use Rattle.engine.specs.declared.refusals.Reply.{Reply}
+use Rattle.engine.specs.declared.refusals.Refusal.{Refusal}
 use Rattle.engine.specs.declared.state.State.{State}
 use Rattle.engine.specs.declared.state.Record.{Record}
 
@@ -20,6 +20,9 @@ WrongLengthIsUnfit = (s : State) (r : Record) (words : ℕ) → WrongMemory s.re
 abbrev pub NeverStartedIsUnfit : Type 0
 NeverStartedIsUnfit = (r : Record) (words : ℕ) → unfit never_started r words ≡ true
 
--- no two replies of the code mean the same
+-- no two answers of the code mean the same, whatever a call tells; nor do two replies of a call that has nothing to tell
+abbrev pub OneAnswer : Type 1
+OneAnswer = (A : Type 0) (a b : Result A Refusal) → saying (λ x. x) a ≡ saying (λ x. x) b → a ≡ b
+
 abbrev pub OneReply : Type 0
-OneReply = (a b : Reply) → replied a ≡ replied b → a ≡ b
+OneReply = (a b : Result (Unit {0}) Refusal) → replied a ≡ replied b → a ≡ b

@@ -3,14 +3,14 @@ ghost use Rattle.std.specs.Prelude.{◌≡◌, ◌≤◌};
 ghost use Rattle.engine.specs.Keeping.{kept_flags, keep_rule};
 ghost use Rattle.engine.specs.Needs.{CanKeep};
 
-use crate::flags::{LOST, fill_rose, raise};
+use crate::flags::LOST;
 use crate::state::Record;
-use places::{Slot, take};
-use ring::Ring;
+use places::take;
+use ring::{Circle, Ring};
 
 #[derive(Clone, Copy)]
 pub struct Kept {
-    pub slot: Slot,
+    pub slot: Option<u32>,
     pub ring: Ring,
     pub recorded: Record,
 }
@@ -24,31 +24,37 @@ pub struct Keeper {
     pub first: u32,
 }
 
-// The flags of what became of it, by the fill before.
-fn note_kept(k: Keeper, fill: u32, slot: Slot, recorded: Record) -> Record
-    requires { k.first ≤ 28 }
-    ensures { result ≡ kept_flags k fill slot recorded }
-{
-    let size = k.size;
-    if fill < size {
-        return fill_rose(recorded, k.first, fill + 1, k.mark, size);
+impl Keeper {
+    // The flags of what became of it, by the fill before.
+    #[tactic(auto, unfolding(crate::specs::Keeping::kept_flags))]
+    fn note_kept(self, fill: u32, slot: Option<u32>, recorded: Record) -> Record
+        requires { self.first ≤ 28 }
+        ensures { result ≡ kept_flags self fill slot recorded }
+    {
+        if fill < self.size {
+            return recorded.fill_rose(self.first, fill + 1, self.mark, self.size);
+        }
+        match slot {
+            Some(_) => recorded.raise(self.first),
+            None => recorded.raise(self.first + LOST),
+        }
     }
-    match slot {
-        Slot::At(_) => raise(recorded, k.first),
-        Slot::Lost => raise(recorded, k.first + LOST),
-    }
-}
 
-pub fn keep(k: Keeper, q: Ring, recorded: Record) -> Kept
-    requires { CanKeep k q }
-    ensures { result ≡ keep_rule k q recorded }
-{
-    let taken = take(q, k.size, k.overwrites);
-    let slot = taken.slot;
-    let ring = taken.ring;
-    Kept {
-        slot,
-        ring,
-        recorded: note_kept(k, q.fill, slot, recorded),
+    // A new element finds a place or none, and its flags are raised.
+    #[tactic(auto, unfolding(crate::specs::Keeping::keep_rule))]
+    pub fn keep(self, q: Ring, recorded: Record) -> Kept
+        requires { CanKeep self q }
+        ensures { result ≡ keep_rule self q recorded }
+    {
+        let circle = Circle {
+            ring: q,
+            size: self.size,
+        };
+        let taken = take(circle, self.overwrites);
+        Kept {
+            slot: taken.slot,
+            ring: taken.ring,
+            recorded: self.note_kept(q.fill, taken.slot, recorded),
+        }
     }
 }

@@ -1,9 +1,13 @@
 // What the engine remembers between calls, and the record of flags and priority.
 ghost use Rattle.std.specs.Prelude.{◌≡◌};
+ghost use Rattle.ring.specs.Rings.{Fit};
+ghost use Rattle.registers.specs.Fields.{fifo_size, event_size};
+ghost use Rattle.engine.specs.Fitness.{shared_ring_size};
 ghost use Rattle.engine.specs.States.{empty_state, never_started, no_flags, fifo_ring, with_fifo, with_events};
 
+use crate::fitness::shared_ring_size;
 use registers::Registers;
-use ring::Ring;
+use ring::{Circle, Ring};
 
 // Everything else is worked out from these.
 #[derive(Clone, Copy)]
@@ -30,12 +34,20 @@ pub struct Record {
     pub priority: u32,
 }
 
+// What a call leaves of both. Calls take the two apart, as the C interface lends them, since interrupt code changes the
+// record in place; and the memory now as `&`, now as `&mut`.
+#[derive(Clone, Copy)]
+pub struct After {
+    pub state: State,
+    pub recorded: Record,
+}
+
 impl State {
     // What an accepted start gives.
     pub fn empty(regs: Registers) -> Self
         ensures { result ≡ empty_state regs }
     {
-        let none = ring::empty();
+        let none = Ring::empty();
         Self {
             regs,
             fifo0: none,
@@ -62,33 +74,71 @@ impl State {
     }
 
     // The ring of FIFO 0 or 1.
+    #[tactic(auto, unfolding(crate::specs::States::fifo_ring))]
     pub fn fifo_ring(self, fifo: u32) -> Ring
         ensures { result ≡ fifo_ring self fifo }
     {
-        if fifo == 0 {
-            return self.fifo0;
-        }
-        self.fifo1
+        if fifo == 0 { self.fifo0 } else { self.fifo1 }
     }
 
+    #[tactic(auto, unfolding(crate::specs::States::with_fifo))]
     pub fn with_fifo(self, fifo: u32, next: Ring) -> State
         ensures { result ≡ with_fifo self fifo next }
     {
-        let mut s = self;
         if fifo == 0 {
-            s.fifo0 = next;
-            return s;
+            State {
+                fifo0: next,
+                ..self
+            }
+        } else {
+            State {
+                fifo1: next,
+                ..self
+            }
         }
-        s.fifo1 = next;
-        s
+    }
+
+    // The places of FIFO 0 or 1, of the event list, and of the shared Tx buffers where they are a FIFO.
+    pub fn fifo_circle(self, fifo: u32) -> Circle
+        requires { Fit (fifo_ring self fifo) (fifo_size self.regs fifo) }
+        ensures ring { result.ring ≡ fifo_ring self fifo }
+        ensures size { result.size ≡ fifo_size self.regs fifo }
+    {
+        Circle {
+            ring: self.fifo_ring(fifo),
+            size: self.regs.fifo(fifo).count(),
+        }
+    }
+
+    pub fn event_circle(self) -> Circle
+        requires { Fit self.events (event_size self.regs) }
+        ensures ring { result.ring ≡ self.events }
+        ensures size { result.size ≡ event_size self.regs }
+    {
+        Circle {
+            ring: self.events,
+            size: self.regs.txefc.count(),
+        }
+    }
+
+    pub fn shared_circle(self) -> Circle
+        requires { Fit self.shared (shared_ring_size self.regs) }
+        ensures ring { result.ring ≡ self.shared }
+        ensures size { result.size ≡ shared_ring_size self.regs }
+    {
+        Circle {
+            ring: self.shared,
+            size: shared_ring_size(self.regs),
+        }
     }
 
     pub fn with_events(self, next: Ring) -> State
         ensures { result ≡ with_events self next }
     {
-        let mut s = self;
-        s.events = next;
-        s
+        State {
+            events: next,
+            ..self
+        }
     }
 }
 

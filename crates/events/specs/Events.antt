@@ -1,7 +1,7 @@
 -- Calls 12 and 13, read and acknowledge an event.
 use Rattle.std.specs.Prelude.{ℕ, Bool, not, List, [], ◌∷◌, leb}
 use Rattle.ring.specs.Rings.{held, released_through}
-use Rattle.shape.specs.Calls.{Says, refuses, answers, leaves, tells, call}
+use Rattle.shape.specs.Calls.{leaves, tells, call}
 use Rattle.shape.specs.Refusals.{Refusals}
 use Rattle.places.specs.Areas.{place_in}
 use Rattle.registers.specs.Fields.{event_size}
@@ -9,12 +9,9 @@ use Rattle.registers.specs.declared.Registers.{Registers}
 use Rattle.element.specs.Headers.{event_header_in, headed}
 use Rattle.element.specs.declared.EventHeader.{EventHeader}
 use Rattle.areas.specs.Areas.{event_area}
-use Rattle.engine.specs.Answers.{told}
 use Rattle.engine.specs.Calls.{World, with_state, Outcome, ◌when◌, is_unfit}
 use Rattle.engine.specs.States.{with_events}
 use Rattle.engine.specs.declared.state.State.{State}
-use Rattle.events.specs.declared.EventAnswer.{EventAnswer}
-use Rattle.events.specs.declared.EventAnswer.TheVariants.{Read, Refused}
 
 -- 23: no such place in the list
 abbrev pub no_event : State → ℕ → Bool
@@ -27,11 +24,6 @@ event_free s place = not (held s.events (event_size s.regs) place)
 -- what is against both
 unfoldable pub event_refusals : World → ℕ → Refusals
 event_refusals w place = 20 when is_unfit w ∷ 23 when no_event w.state place ∷ 29 when event_free w.state place ∷ []
-
--- what the code answers
-abbrev pub meaning : EventAnswer → Says EventHeader
-meaning (Read h) = answers h
-meaning (Refused n) = refuses (told n)
 
 -- the event at a place
 unfoldable pub event_at : Registers → List ℕ → ℕ → EventHeader

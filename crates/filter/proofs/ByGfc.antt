@@ -4,17 +4,16 @@ use Prim.Native.Nat.{ℕ}
 use mathlib.Core.Path.{◌≡◌, refl, sym, ap, ◌∙◌, subst}
 use mathlib.Core.Bool.{Bool, true, false, not, ◌&&◌}
 use mathlib.Core.List.{List}
+use Rattle.std.specs.Prelude.{Option, Some, None}
 use mathlib.Core.Logic.{◌⊎◌, inl, inr}
 use lib.Dec.{eqb, ltb, leb}
-use borrow.Author.Tests.{eqb-true, eq-eqb}
+use Rattle.std.proofs.lemmas.Bool.{eqb-true, eq-eqb, and_parts, false_from_ne_true}
 use Rattle.words.specs.Choice.{pick}
 use Rattle.words.specs.Bits.{bit, is_set}
 use Rattle.words.specs.Fields.{bits}
-use Rattle.words.proofs.Choices.{pick_first, pick_second, and_both}
+use Rattle.words.proofs.Choices.{pick_first, pick_second}
 use Rattle.registers.specs.declared.Registers.{Registers}
 use Rattle.frame.specs.declared.Frame.{Frame}
-use Rattle.frame.specs.declared.Matched.{Matched}
-use Rattle.frame.specs.declared.Matched.TheVariants.{Nothing, Filter}
 use Rattle.filter.specs.Search.{list_of, filter_at, first_match}
 use Rattle.filter.specs.Destination.{Goes, to_fifo, to_buffer, discarded, remote_out, non_matching, unmatched}
 use Rattle.filter.specs.Destination.{rx_buffer, by_action, by_search, destination}
@@ -27,14 +26,14 @@ use Rattle.filter.proofs.ActionByAction.{destination_is_by_action}
 abbrev is_remote : Goes → Bool
 is_remote (to_fifo k priority m) = false
 is_remote (to_buffer b i) = false
-is_remote (discarded why Nothing) = eqb why 0
-is_remote (discarded why (Filter i)) = false
+is_remote (discarded why None) = eqb why 0
+is_remote (discarded why (Some i)) = false
 
 data Other : Goes → Type 0 where
-  fifo : {k : ℕ} {priority : Bool} {m : Matched} → Other (to_fifo k priority m)
+  fifo : {k : ℕ} {priority : Bool} {m : Option ℕ} → Other (to_fifo k priority m)
   buffer : {b i : ℕ} → Other (to_buffer b i)
-  named : {why i : ℕ} → Other (discarded why (Filter i))
-  unnamed : Other (discarded 2 Nothing)
+  named : {why i : ℕ} → Other (discarded why (Some i))
+  unnamed : Other (discarded 2 None)
 
 other_not : (d : Goes) → Other d → is_remote d ≡ false
 other_not d fifo = refl
@@ -76,10 +75,6 @@ search_other g mem l newdata i =
 
 -- ---- remote frames, by bit
 
-never : (t : Bool) → (t ≡ true → ⊥) → t ≡ false
-never true h = absurd (h refl)
-never false h = refl
-
 module _ (g : Registers) (mem : List ℕ) (f : Frame) (newdata : ℕ) where
   abbrev out : Bool
   out = f.rtr && remote_out g f.xtd
@@ -96,10 +91,10 @@ module _ (g : Registers) (mem : List ℕ) (f : Frame) (newdata : ℕ) where
   by_bit false e h = inl (e, eqb-true (bit g.gfc.word 1) 1 h)
 
   out_by_bit : out ≡ true → RemoteIsOut g f
-  out_by_bit h = let b = and_both f.rtr (remote_out g f.xtd) h in (b.0, by_bit f.xtd refl b.1)
+  out_by_bit h = let b = and_parts f.rtr (remote_out g f.xtd) h in (b.0, by_bit f.xtd refl b.1)
 
   stays : (RemoteIsOut g f → ⊥) → out ≡ false
-  stays k = never out (λ h. k (out_by_bit h))
+  stays k = false_from_ne_true out (λ h. k (out_by_bit h))
 
   bit_out : RemoteIsOut g f → out ≡ true
   bit_out h = rw h.0 (go h.1)

@@ -17,8 +17,6 @@ module _ (xtd : Bool) (xidam id : ℕ) where
   pub seen_short : xtd ≡ false → id ≡ seen xtd xidam id
   seen_short h = rw h
 
-pub ruleset seens = (seen_long, seen_short)
-
 module _ (t : ℕ) (xtd : Bool) (e : FilterElement) (x id : ℕ) (r : Bool) where
   pub by_range : r ≡ in_range e x → t ≡ 0 → r ≡ by_type t xtd e x id
   unfolding by_type
@@ -36,8 +34,6 @@ module _ (t : ℕ) (xtd : Bool) (e : FilterElement) (x id : ℕ) (r : Bool) wher
   unfolding by_type
   by_plain_range d h k l = rw (ne_eqb t 0 h, ne_eqb t 1 k, ne_eqb t 2 l, d)
 
-pub ruleset types = (by_range, by_either, by_bits, by_plain_range)
-
 module _ (xtd : Bool) (xidam : ℕ) (e : FilterElement) (id : ℕ) where
   pub match_off : e.action ≡ 0 → false ≡ matches xtd xidam e id
   unfolding matches
@@ -52,5 +48,3 @@ module _ (xtd : Bool) (xidam : ℕ) (e : FilterElement) (id : ℕ) where
         → r ≡ matches xtd xidam e id
     unfolding matches
     match_type r d h k = rw (ne_eqb e.action 0 h, ne_eqb e.action 7 k, ← s) d
-
-pub ruleset tests = (match_off, match_buffer, match_type)

@@ -2,16 +2,15 @@
 -- Assumes nothing.
 use Prim.Native.Nat.{ℕ, zero, suc, ◌^◌, ◌≤◌, ◌<◌, min}
 use mathlib.Core.Path.{◌≡◌, refl, sym, ap, ◌∙◌}
-use mathlib.Core.Bool.{Bool, true, false, ◌&&◌, ◌||◌}
+use mathlib.Core.Bool.{Bool, true, ◌&&◌}
 use mathlib.Core.Logic.{◌↔◌, ◌⊎◌, inl, inr, ⊎_elim}
 use native.Mathlib.Nat.{pow-suc}
 use native.Mathlib.Omega.{arith}
-use borrow.Author.Tests.{eqb-true, eq-eqb, leb-true, le-leb}
+use Rattle.std.proofs.lemmas.Bool.{eqb-true, eq-eqb, leb-true, le-leb, and_parts, and_from, or_cases, or_left, or_right}
 use lib.Bits.{bit_and, and_le_r}
 use lib.Dec.{eqb}
 use Rattle.words.specs.Bits.{bit}
-use Rattle.words.proofs.Bits.{bit_of_and, bit_lt, same_bits}
-use Rattle.words.proofs.Choices.{and_both}
+use Rattle.words.proofs.BitLaws.{bit_of_and, bit_lt, same_bits}
 use Rattle.filter.specs.Matching.{seen, in_range, either_of, at_set_bits, by_type, matches}
 use Rattle.filter.specs.Promises.{SeenTells, MatchTells, MatchIsByType}
 use Rattle.filter.specs.declared.filters.FilterElement.{FilterElement}
@@ -23,32 +22,18 @@ use Rattle.filter.proofs.Tests.{match_buffer, match_type}
 equal_tells : (a b : ℕ) → (eqb a b ≡ true) ↔ (a ≡ b)
 equal_tells a b = (eqb-true a b, eq-eqb a b)
 
-both : {a b : Bool} → a ≡ true → b ≡ true → (a && b) ≡ true
-both p q = rw (p, q)
-
-one_of : (a b : Bool) → (a || b) ≡ true → (a ≡ true) ⊎ (b ≡ true)
-one_of true b e = inl refl
-one_of false b e = inr e
-
-first_of : {a : Bool} (b : Bool) → a ≡ true → (a || b) ≡ true
-first_of b p = rw p
-
-second_of : (a : Bool) {b : Bool} → b ≡ true → (a || b) ≡ true
-second_of true p = refl
-second_of false p = p
-
 range_tells : (e : FilterElement) (x : ℕ) → (in_range e x ≡ true) ↔ ((e.id1 ≤ x) × (x ≤ e.id2))
 range_tells e x = (
-  λ h. let b = and_both _ _ h in (leb-true e.id1 x b.0, leb-true x e.id2 b.1),
-  λ h. both (le-leb e.id1 x h.0) (le-leb x e.id2 h.1),
+  λ h. let b = and_parts _ _ h in (leb-true e.id1 x b.0, leb-true x e.id2 b.1),
+  λ h. and_from _ _ (le-leb e.id1 x h.0) (le-leb x e.id2 h.1),
 )
 
 either_tells : (e : FilterElement) (x : ℕ) → (either_of e x ≡ true) ↔ ((x ≡ e.id1) ⊎ (x ≡ e.id2))
 either_tells e x = (
   λ h. ⊎_elim (λ a. inl (eqb-true x e.id1 a)) (λ b. inr (eqb-true x e.id2 b))
-      (one_of (eqb x e.id1) (eqb x e.id2) h),
-  λ h. ⊎_elim (λ a. first_of (eqb x e.id2) (eq-eqb x e.id1 a))
-      (λ b. second_of (eqb x e.id1) (eq-eqb x e.id2 b)) h,
+      (or_cases (eqb x e.id1) (eqb x e.id2) h),
+  λ h. ⊎_elim (λ a. or_left _ (eqb x e.id2) (eq-eqb x e.id1 a))
+      (λ b. or_right (eqb x e.id1) _ (eq-eqb x e.id2 b)) h,
 )
 
 below_pow : (n : ℕ) → n < 2 ^ n

@@ -4,60 +4,45 @@ use Prim.Native.Nat.{ℕ, ◌≤◌, ◌<◌}
 use mathlib.Core.Path.{◌≡◌, sym, ap, ap₂, ◌∙◌}
 use mathlib.Core.Bool.{Bool, true, false, ◌&&◌}
 use mathlib.Core.List.{List}
+use Rattle.std.specs.Prelude.{Some, None}
 use borrow.Author.Tests.{eq-eqb, ne_eqb, le-leb, lt-leb, lt-ltb, le-ltb}
 use Rattle.words.specs.Fields.{bits}
 use Rattle.words.specs.Bits.{is_set}
 use Rattle.words.proofs.Choices.{pick_first, pick_second}
 use Rattle.registers.specs.declared.Registers.{Registers}
 use Rattle.frame.specs.declared.Frame.{Frame}
-use Rattle.frame.specs.declared.Matched.TheVariants.{Nothing, Filter}
 use Rattle.filter.specs.Search.{list_of, filter_at, first_match}
 use Rattle.filter.specs.Destination.{Goes, to_fifo, to_buffer, discarded, remote_out, non_matching}
 use Rattle.filter.specs.Destination.{unmatched, rx_buffer, by_action, by_search, destination}
 use Rattle.filter.specs.declared.filters.FilterElement.{FilterElement}
 use Rattle.filter.specs.declared.lists.FilterList.{FilterList}
 
-module _ (g : Registers) (xtd : Bool) where
-  pub out_long : (b : Bool) → b ≡ remote_out g true → xtd ≡ true → b ≡ remote_out g xtd
-  out_long b d h = rw h d
-
-  pub out_short : (b : Bool) → b ≡ remote_out g false → xtd ≡ false → b ≡ remote_out g xtd
-  out_short b d h = rw h d
-
-  pub non_long : (b : ℕ) → b ≡ non_matching g true → xtd ≡ true → b ≡ non_matching g xtd
-  non_long b d h = rw h d
-
-  pub non_short : (b : ℕ) → b ≡ non_matching g false → xtd ≡ false → b ≡ non_matching g xtd
-  non_short b d h = rw h d
-
-pub ruleset globals = (out_long, out_short, non_long, non_short)
-
 module _ (anf : ℕ) where
-  pub unmatched_0 : anf ≡ 0 → to_fifo 0 false Nothing ≡ unmatched anf
+  pub unmatched_0 : anf ≡ 0 → to_fifo 0 false None ≡ unmatched anf
   unfolding unmatched
   unmatched_0 h = rw h
 
-  pub unmatched_1 : anf ≡ 1 → to_fifo 1 false Nothing ≡ unmatched anf
+  pub unmatched_1 : anf ≡ 1 → to_fifo 1 false None ≡ unmatched anf
   unfolding unmatched
   unmatched_1 h = rw h
 
-  pub unmatched_out : (anf ≡ 0 → ⊥) → (anf ≡ 1 → ⊥) → discarded 2 Nothing ≡ unmatched anf
+  pub unmatched_out : (anf ≡ 0 → ⊥) → (anf ≡ 1 → ⊥) → discarded 2 None ≡ unmatched anf
   unfolding unmatched
   unmatched_out h k = rw (ne_eqb anf 0 h, ne_eqb anf 1 k)
 
 -- action 7
 module _ (id2 buffers newdata i : ℕ) where
-  pub buffer_debug : (bits 10 9 id2 ≡ 0 → ⊥) → discarded 4 (Filter i) ≡ rx_buffer id2 buffers newdata i
+  pub buffer_debug : (bits 10 9 id2 ≡ 0 → ⊥) → discarded 4 (Some i) ≡ rx_buffer id2 buffers newdata i
   unfolding rx_buffer
   buffer_debug h = rw (ne_eqb (bits 10 9 id2) 0 h)
 
   module _ (b : ℕ) (named : b ≡ bits 5 0 id2) (plain : bits 10 9 id2 ≡ 0) where
-    pub buffer_misfiled : buffers ≤ b → discarded 5 (Filter i) ≡ rx_buffer id2 buffers newdata i
+    pub buffer_misfiled : buffers ≤ b → discarded 5 (Some i) ≡ rx_buffer id2 buffers newdata i
     unfolding rx_buffer
     buffer_misfiled h = rw (eq-eqb (bits 10 9 id2) 0 plain, ← named, le-leb buffers b h)
 
     module _ (within : b < buffers) (r : Bool) (new : r ≡ is_set newdata b) where
-      pub buffer_locked : r ≡ true → discarded 6 (Filter i) ≡ rx_buffer id2 buffers newdata i
+      pub buffer_locked : r ≡ true → discarded 6 (Some i) ≡ rx_buffer id2 buffers newdata i
       unfolding rx_buffer
       buffer_locked h = rw (eq-eqb (bits 10 9 id2) 0 plain, ← named, lt-leb buffers b within, ← new, h)
 
@@ -65,31 +50,29 @@ module _ (id2 buffers newdata i : ℕ) where
       unfolding rx_buffer
       buffer_is_free h = rw (eq-eqb (bits 10 9 id2) 0 plain, ← named, lt-leb buffers b within, ← new, h)
 
-pub ruleset buffers = (buffer_debug, buffer_misfiled, buffer_locked, buffer_is_free)
-
 -- by action
 module _ (action id2 buffers newdata i : ℕ) where
-  pub act_1 : action ≡ 1 → to_fifo 0 false (Filter i) ≡ by_action action id2 buffers newdata i
+  pub act_1 : action ≡ 1 → to_fifo 0 false (Some i) ≡ by_action action id2 buffers newdata i
   unfolding by_action
   act_1 h = rw h
 
-  pub act_2 : action ≡ 2 → to_fifo 1 false (Filter i) ≡ by_action action id2 buffers newdata i
+  pub act_2 : action ≡ 2 → to_fifo 1 false (Some i) ≡ by_action action id2 buffers newdata i
   unfolding by_action
   act_2 h = rw h
 
-  pub act_3 : action ≡ 3 → discarded 1 (Filter i) ≡ by_action action id2 buffers newdata i
+  pub act_3 : action ≡ 3 → discarded 1 (Some i) ≡ by_action action id2 buffers newdata i
   unfolding by_action
   act_3 h = rw h
 
-  pub act_4 : action ≡ 4 → discarded 3 (Filter i) ≡ by_action action id2 buffers newdata i
+  pub act_4 : action ≡ 4 → discarded 3 (Some i) ≡ by_action action id2 buffers newdata i
   unfolding by_action
   act_4 h = rw h
 
-  pub act_5 : action ≡ 5 → to_fifo 0 true (Filter i) ≡ by_action action id2 buffers newdata i
+  pub act_5 : action ≡ 5 → to_fifo 0 true (Some i) ≡ by_action action id2 buffers newdata i
   unfolding by_action
   act_5 h = rw h
 
-  pub act_6 : action ≡ 6 → to_fifo 1 true (Filter i) ≡ by_action action id2 buffers newdata i
+  pub act_6 : action ≡ 6 → to_fifo 1 true (Some i) ≡ by_action action id2 buffers newdata i
   unfolding by_action
   act_6 h = rw h
 
@@ -107,12 +90,10 @@ module _ (action id2 buffers newdata i : ℕ) where
         ne_eqb action 6 f,
       ) h
 
-pub ruleset actions = (act_1, act_2, act_3, act_4, act_5, act_6, act_7)
-
 -- the whole
 module _ (g : Registers) (mem : List ℕ) (f : Frame) (newdata : ℕ) where
   pub goes_out : (o : Bool) → o ≡ remote_out g f.xtd → (f.rtr && o) ≡ true
-      → discarded 0 Nothing ≡ destination g mem f newdata
+      → discarded 0 None ≡ destination g mem f newdata
   unfolding destination
   goes_out o d h = sym (pick_first _ _ (ap (λ (b : Bool). f.rtr && b) (sym d) ∙ h))
 
@@ -144,5 +125,3 @@ module _ (g : Registers) (mem : List ℕ) (f : Frame) (newdata : ℕ) where
         ∙ ap unmatched (p ∙ ap (λ (k : FilterList). non_matching g k.xtd) (sym listed))
         ∙ sym (pick_second _ _ (le-ltb i l.count h))
         ∙ searched
-
-pub ruleset ways = (goes_out, goes_by_match, goes_unmatched)

@@ -1,13 +1,11 @@
 -- Where a received frame goes.
-use Rattle.std.specs.Prelude.{ℕ, Bool, true, false, not, ◌&&◌, List, eqb, ltb, leb}
+use Rattle.std.specs.Prelude.{ℕ, Bool, true, false, not, ◌&&◌, Option, Some, None, List, eqb, ltb, leb}
 use Rattle.words.specs.Choice.{pick}
 use Rattle.words.specs.Fields.{bits}
 use Rattle.words.specs.Bits.{is_set}
 use Rattle.registers.specs.Fields.{buffers, anfs, anfe, rrfs, rrfe}
 use Rattle.registers.specs.declared.Registers.{Registers}
 use Rattle.frame.specs.declared.Frame.{Frame}
-use Rattle.frame.specs.declared.Matched.{Matched}
-use Rattle.frame.specs.declared.Matched.TheVariants.{Nothing, Filter}
 use Rattle.filter.specs.Search.{list_of, filter_at, first_match}
 use Rattle.filter.specs.declared.lists.FilterList.{FilterList}
 use Rattle.filter.specs.declared.Reason.{Reason}
@@ -19,11 +17,11 @@ use Rattle.filter.specs.declared.Destination.TheVariants.{Fifo, Buffer, Discarde
 -- where a frame goes, with the index of the element that matched, if one did; a reason has the number that is below
 pub data Goes : Type 0 where
   -- to FIFO 0 or 1; whether with priority
-  to_fifo : ℕ → Bool → Matched → Goes
+  to_fifo : ℕ → Bool → Option ℕ → Goes
   -- to an Rx buffer; the index
   to_buffer : ℕ → ℕ → Goes
   -- the reason's number
-  discarded : ℕ → Matched → Goes
+  discarded : ℕ → Option ℕ → Goes
 
 -- the reasons, numbered in the order in which document 01 lists them
 abbrev pub reason : Reason → ℕ
@@ -51,27 +49,27 @@ non_matching g xtd = pick xtd (anfe g) (anfs g)
 
 unfoldable pub unmatched : ℕ → Goes
 unmatched anf =
-    pick (eqb anf 0) (to_fifo 0 false Nothing)
-    (pick (eqb anf 1) (to_fifo 1 false Nothing)
-    (discarded (reason NoMatch) Nothing))
+    pick (eqb anf 0) (to_fifo 0 false None)
+    (pick (eqb anf 1) (to_fifo 1 false None)
+    (discarded (reason NoMatch) None))
 
 -- 4, action 7: ID2 bits 10:9 not 0 means debug, bits 5:0 name the buffer, past the count misfiled. 5: new data locks it
 unfoldable pub rx_buffer : ℕ → ℕ → ℕ → ℕ → Goes
 rx_buffer id2 count newdata i =
-    pick (not (eqb (bits 10 9 id2) 0)) (discarded (reason Debug) (Filter i))
-    (pick (leb count (bits 5 0 id2)) (discarded (reason Misfiled) (Filter i))
-    (pick (is_set newdata (bits 5 0 id2)) (discarded (reason Locked) (Filter i))
+    pick (not (eqb (bits 10 9 id2) 0)) (discarded (reason Debug) (Some i))
+    (pick (leb count (bits 5 0 id2)) (discarded (reason Misfiled) (Some i))
+    (pick (is_set newdata (bits 5 0 id2)) (discarded (reason Locked) (Some i))
     (to_buffer (bits 5 0 id2) i)))
 
 -- 4: what the action of the element that matched does. One of action 0 never matches, so the last case is action 7
 unfoldable pub by_action : ℕ → ℕ → ℕ → ℕ → ℕ → Goes
 by_action action id2 count newdata i =
-    pick (eqb action 1) (to_fifo 0 false (Filter i))
-    (pick (eqb action 2) (to_fifo 1 false (Filter i))
-    (pick (eqb action 3) (discarded (reason Reject) (Filter i))
-    (pick (eqb action 4) (discarded (reason PriorityOnly) (Filter i))
-    (pick (eqb action 5) (to_fifo 0 true (Filter i))
-    (pick (eqb action 6) (to_fifo 1 true (Filter i))
+    pick (eqb action 1) (to_fifo 0 false (Some i))
+    (pick (eqb action 2) (to_fifo 1 false (Some i))
+    (pick (eqb action 3) (discarded (reason Reject) (Some i))
+    (pick (eqb action 4) (discarded (reason PriorityOnly) (Some i))
+    (pick (eqb action 5) (to_fifo 0 true (Some i))
+    (pick (eqb action 6) (to_fifo 1 true (Some i))
     (rx_buffer id2 count newdata i))))))
 
 -- by what the search in a list answers
@@ -84,5 +82,5 @@ by_search g mem l newdata i =
 -- 1 remote frames go out first; 2 the list of the frame's kind is searched; 3 to 5 the first match decides
 unfoldable pub destination : Registers → List ℕ → Frame → ℕ → Goes
 destination g mem f newdata =
-    pick (f.rtr && remote_out g f.xtd) (discarded (reason Remote) Nothing)
+    pick (f.rtr && remote_out g f.xtd) (discarded (reason Remote) None)
     (by_search g mem (list_of g f.xtd) newdata (first_match mem (list_of g f.xtd) f.id))

@@ -1,13 +1,11 @@
 -- What is promised of the search and of where a frame goes (demand 2): statements only.
-use Rattle.std.specs.Prelude.{ℕ, ◌+◌, ◌*◌, ◌≤◌, ◌<◌, min, ◌≡◌, Bool, true, false, ◌&&◌, List, ◌↔◌, ◌⊎◌, get_or}
+use Rattle.std.specs.Prelude.{ℕ, ◌+◌, ◌*◌, ◌≤◌, ◌<◌, min, ◌≡◌, Bool, true, false, ◌&&◌, Option, Some, None, List, ◌↔◌, ◌⊎◌, get_or}
 use Rattle.words.specs.Fields.{bits}
 use Rattle.words.specs.Bits.{bit}
 use Rattle.words.specs.Ranges.{SameIn}
 use Rattle.registers.specs.Fields.{buffers}
 use Rattle.registers.specs.declared.Registers.{Registers}
 use Rattle.frame.specs.declared.Frame.{Frame}
-use Rattle.frame.specs.declared.Matched.{Matched}
-use Rattle.frame.specs.declared.Matched.TheVariants.{Nothing, Filter}
 use Rattle.filter.specs.Matching.{seen, matches}
 use Rattle.filter.specs.Search.{list_of, list_range, filter_at, matches_at, first_match, FewFilters}
 use Rattle.filter.specs.Destination.{Goes, to_fifo, to_buffer, discarded, reason, meaning, remote_out, non_matching}
@@ -66,30 +64,30 @@ MatchIsByType =
 
 -- element i, which is e, decides: action by action
 pub record ActionTells (g : Registers) (newdata : ℕ) (e : FilterElement) (i : ℕ) (d : Goes) : Type 0 where
-  pub fifo0 : e.action ≡ 1 → d ≡ to_fifo 0 false (Filter i)
-  pub fifo1 : e.action ≡ 2 → d ≡ to_fifo 1 false (Filter i)
-  pub reject : e.action ≡ 3 → d ≡ discarded (reason Reject) (Filter i)
-  pub priority : e.action ≡ 4 → d ≡ discarded (reason PriorityOnly) (Filter i)
-  pub priority0 : e.action ≡ 5 → d ≡ to_fifo 0 true (Filter i)
-  pub priority1 : e.action ≡ 6 → d ≡ to_fifo 1 true (Filter i)
-  pub debug : e.action ≡ 7 → 0 < bits 10 9 e.id2 → d ≡ discarded (reason Debug) (Filter i)
+  pub fifo0 : e.action ≡ 1 → d ≡ to_fifo 0 false (Some i)
+  pub fifo1 : e.action ≡ 2 → d ≡ to_fifo 1 false (Some i)
+  pub reject : e.action ≡ 3 → d ≡ discarded (reason Reject) (Some i)
+  pub priority : e.action ≡ 4 → d ≡ discarded (reason PriorityOnly) (Some i)
+  pub priority0 : e.action ≡ 5 → d ≡ to_fifo 0 true (Some i)
+  pub priority1 : e.action ≡ 6 → d ≡ to_fifo 1 true (Some i)
+  pub debug : e.action ≡ 7 → 0 < bits 10 9 e.id2 → d ≡ discarded (reason Debug) (Some i)
   pub misfiled : e.action ≡ 7 → bits 10 9 e.id2 ≡ 0 → buffers g ≤ bits 5 0 e.id2
-      → d ≡ discarded (reason Misfiled) (Filter i)
+      → d ≡ discarded (reason Misfiled) (Some i)
   pub locked : e.action ≡ 7 → bits 10 9 e.id2 ≡ 0 → bits 5 0 e.id2 < buffers g
       → bit newdata (bits 5 0 e.id2) ≡ 1
-      → d ≡ discarded (reason Locked) (Filter i)
+      → d ≡ discarded (reason Locked) (Some i)
   pub stored : e.action ≡ 7 → bits 10 9 e.id2 ≡ 0 → bits 5 0 e.id2 < buffers g
       → bit newdata (bits 5 0 e.id2) ≡ 0
       → d ≡ to_buffer (bits 5 0 e.id2) i
 
 -- no element matches
 pub record UnmatchedTells (anf : ℕ) (d : Goes) : Type 0 where
-  pub fifo0 : anf ≡ 0 → d ≡ to_fifo 0 false Nothing
-  pub fifo1 : anf ≡ 1 → d ≡ to_fifo 1 false Nothing
-  pub out : 2 ≤ anf → d ≡ discarded (reason NoMatch) Nothing
+  pub fifo0 : anf ≡ 0 → d ≡ to_fifo 0 false None
+  pub fifo1 : anf ≡ 1 → d ≡ to_fifo 1 false None
+  pub out : 2 ≤ anf → d ≡ discarded (reason NoMatch) None
 
 pub record DestinationTells (g : Registers) (mem : List ℕ) (f : Frame) (newdata : ℕ) : Type 0 where
-  pub remote : (f.rtr && remote_out g f.xtd) ≡ true → destination g mem f newdata ≡ discarded (reason Remote) Nothing
+  pub remote : (f.rtr && remote_out g f.xtd) ≡ true → destination g mem f newdata ≡ discarded (reason Remote) None
   pub unmatched : (f.rtr && remote_out g f.xtd) ≡ false → NoneMatches mem (list_of g f.xtd) f.id
       → UnmatchedTells (non_matching g f.xtd) (destination g mem f newdata)
   pub matched : (f.rtr && remote_out g f.xtd) ≡ false → (i : ℕ) → FirstIs mem (list_of g f.xtd) f.id i
@@ -106,7 +104,7 @@ RemoteIsOut g f =
 
 -- d is where a frame goes. No element matches: ANFS is bits 5:4, of 11 bits, and ANFE bits 3:2, of 29
 pub record GfcTells (g : Registers) (mem : List ℕ) (f : Frame) (newdata : ℕ) (d : Goes) : Type 0 where
-  pub remote : (d ≡ discarded (reason Remote) Nothing) ↔ RemoteIsOut g f
+  pub remote : (d ≡ discarded (reason Remote) None) ↔ RemoteIsOut g f
   pub anfs : (RemoteIsOut g f → ⊥) → f.xtd ≡ false → NoneMatches mem (list_of g f.xtd) f.id
       → UnmatchedTells (bits 5 4 g.gfc.word) d
   pub anfe : (RemoteIsOut g f → ⊥) → f.xtd ≡ true → NoneMatches mem (list_of g f.xtd) f.id
@@ -162,8 +160,8 @@ DestinationReadsItsList =
 
 -- ---- bounds
 
-abbrev pub IndexBelow : ℕ → Matched → Type 0
-IndexBelow n m = (i : ℕ) → m ≡ Filter i → i < n
+abbrev pub IndexBelow : ℕ → Option ℕ → Type 0
+IndexBelow n m = (i : ℕ) → m ≡ Some i → i < n
 
 -- a FIFO is 0 or 1, a buffer is below the count and its new-data bit is clear, and an index is below 128
 abbrev pub Within : Registers → ℕ → Goes → Type 0

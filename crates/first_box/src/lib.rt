@@ -8,8 +8,8 @@ ghost use Rattle.starting.specs.Starting.{start_says};
 ghost use Rattle.handler.specs.Stars.{case_a};
 
 use handler::{
-    Gfc, Record, Registers, Rxbc, Rxesc, Rxfc, Sidfc, Started, State, Txbc, Txefc, Txesc,
-    WordAddress, Xidam, Xidfc,
+    Gfc, LayoutRefusal, Record, Register, Registers, Rxbc, Rxesc, Rxfc, Sidfc, Started, State,
+    Txbc, Txefc, Txesc, WordAddress, Xidam, Xidfc,
 };
 
 // The size code of 64 data bytes.
@@ -38,8 +38,9 @@ pub fn registers() -> Registers
 }
 
 // Starts a box with them: accepted with every memory of 2,560 words, whatever the old state and record.
-pub fn start(old: State, recorded: Record, mem: &[u32]) -> Started
-    ensures { length mem.now ≡ 2560 → start_says (meaning result.verdict) ≡ done }
+#[tactic(auto, using(crate::proofs::Accepted::none_refuses), unfolding(shape::specs::Calls::call))]
+pub fn start(old: State, recorded: Record, mem: &[u32]) -> Result<Started, LayoutRefusal>
+    ensures { length mem.now ≡ 2560 → start_says (meaning result) ≡ done }
 {
     handler::start(old, recorded, registers(), mem)
 }

@@ -8,7 +8,7 @@ use mathlib.Core.Logic.{◌↔◌, ◌⊎◌, inl, inr}
 use native.Mathlib.Omega.{arith}
 use lib.Dec.{ltb}
 use lib.ListN.{get_or}
-use borrow.Author.Tests.{lt-ltb, le-ltb}
+use Rattle.std.proofs.lemmas.Bool.{lt-ltb, le-ltb, not-true, not_from_false, and_parts, and_from, or_cases, or_left, or_right}
 use Rattle.words.specs.Choice.{pick}
 use Rattle.words.proofs.Choices.{pick_first, pick_second}
 use Rattle.words.proofs.Runs.{length_run, get_or_run}
@@ -19,20 +19,13 @@ use Rattle.frame.specs.declared.Frame.{Frame}
 -- ---- tests and what they say
 
 both : (a b : Bool) → ((a && b) ≡ true) ↔ ((a ≡ true) × (b ≡ true))
-both true b = (λ h. (refl, h), λ h. h.1)
-both false b = (λ h. (h, cc), λ h. h.0)
+both a b = (and_parts a b, λ h. and_from a b h.0 h.1)
 
 either : (a b : Bool) → ((a || b) ≡ true) ↔ ((a ≡ true) ⊎ (b ≡ true))
-either true b = (λ h. inl refl, λ h. refl)
-either false b = (inr, other)
-  where
-    other : (false ≡ true) ⊎ (b ≡ true) → b ≡ true
-    other (inl h) = cc
-    other (inr h) = h
+either a b = (or_cases a b, elim [ inl h ↦ or_left a b h | inr h ↦ or_right a b h ])
 
 denied : (a : Bool) → (not a ≡ true) ↔ (a ≡ false)
-denied true = (λ h. cc, λ h. cc)
-denied false = (λ h. refl, λ h. refl)
+denied a = (not-true a, not_from_false a)
 
 module _ (f : Frame) (fd : Bool) where
   in_fd : (sent_fd f fd ≡ true) ↔ GoesInFd f fd

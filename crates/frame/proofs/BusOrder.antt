@@ -9,7 +9,7 @@ use lib.ListN.{length, length-append}
 use Rattle.words.specs.Choice.{pick}
 use Rattle.words.specs.Bits.{bit}
 use Rattle.words.specs.Runs.{run}
-use Rattle.words.proofs.Bits.{bit_lt}
+use Rattle.words.proofs.BitLaws.{bit_lt}
 use Rattle.words.proofs.Runs.{length_run}
 use Rattle.frame.specs.Identifier.{IdInKind}
 use Rattle.frame.specs.Rank.{rank}

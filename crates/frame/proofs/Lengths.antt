@@ -1,11 +1,11 @@
 -- The data length, case by case, and its bounds.
 -- Assumes nothing.
-use Prim.Native.Nat.{ℕ, zero, suc, ◌≤◌, ◌<◌, min, max}
-use mathlib.Core.Path.{◌≡◌, refl, sym, ◌∙◌}
+use Prim.Native.Nat.{ℕ, zero, suc, ◌≤◌, min, max}
+use mathlib.Core.Path.{◌≡◌, refl}
 use mathlib.Core.Bool.{Bool, true, false}
 use mathlib.Core.List.{List, [], ◌∷◌}
 use native.Mathlib.Omega.{arith}
-use lib.ListN.{get_or, get_or-eq_default}
+use lib.ListN.{get_or}
 use Rattle.frame.specs.Length.{fd_bytes, data_length}
 
 -- no entry of a list is above its largest
@@ -30,20 +30,9 @@ module _ (rtr fdf : Bool) (dlc : ℕ) where
   unfolding data_length
   length_fd a b = simp (a, b)
 
-  pub length_past : rtr ≡ false → fdf ≡ true → 15 < dlc → 0 ≡ data_length rtr fdf dlc
-  length_past a b h = sym (get_or-eq_default fd_bytes 0 h) ∙ length_fd a b
-
   pub length_classic : rtr ≡ false → fdf ≡ false → min dlc 8 ≡ data_length rtr fdf dlc
   unfolding data_length
   length_classic a b = simp (a, b)
-
-  pub length_short : rtr ≡ false → fdf ≡ false → dlc < 8 → dlc ≡ data_length rtr fdf dlc
-  length_short a b h = omega (arith, length_classic a b)
-
-  pub length_full : rtr ≡ false → fdf ≡ false → 8 ≤ dlc → 8 ≡ data_length rtr fdf dlc
-  length_full a b h = omega (arith, length_classic a b)
-
-pub ruleset lengths = (length_remote, length_past, length_fd, length_short, length_full, fd_most)
 
 -- ---- bounds
 
@@ -51,7 +40,3 @@ pub length_most : (rtr fdf : Bool) (dlc : ℕ) → data_length rtr fdf dlc ≤ 6
 length_most true fdf dlc = omega (arith, length_remote true fdf dlc refl)
 length_most false true dlc = omega (arith, length_fd false true dlc refl refl, fd_most dlc)
 length_most false false dlc = omega (arith, length_classic false false dlc refl refl)
-
-pub classic_most : (rtr : Bool) (dlc : ℕ) → data_length rtr false dlc ≤ 8
-classic_most true dlc = omega (arith, length_remote true false dlc refl)
-classic_most false dlc = omega (arith, length_classic false false dlc refl refl)

@@ -1,7 +1,6 @@
 pub mod Lengths
 pub mod SizeLaws
 pub mod Forms
-pub mod Ranks
 pub mod Order
 pub mod BusOrder
 pub mod AsSent

@@ -12,7 +12,7 @@ use lib.ListN.{length}
 use Rattle.words.specs.Bits.{bit}
 use Rattle.words.specs.Best.{Best, nobody, somebody, AsGood}
 use Rattle.words.specs.Rules.{allowed, first}
-use Rattle.words.proofs.Bits.{bit_lt}
+use Rattle.words.proofs.BitLaws.{bit_lt}
 use Rattle.words.proofs.Choices.{and_both}
 use Rattle.ring.specs.Rings.{age, held}
 use Rattle.shape.specs.Calls.{Says, answers, done, leaves}

@@ -1,30 +1,20 @@
 -- Demand 2, received frames: which element is named, where the frame goes and what becomes of it.
 -- Assumes nothing.
-use Prim.Native.Nat.{ℕ, ◌<◌}
+use Rattle.std.proofs.Common.{Option, Some, None}
+use Prim.Native.Nat.{ℕ}
 use mathlib.Core.Path.{◌≡◌, refl, sym, ap, subst, ◌∙◌}
-use mathlib.Core.Bool.{Bool, true, false, not, ◌||◌}
+use mathlib.Core.Bool.{Bool, true, false}
 use mathlib.Core.List.{List, []}
 use mathlib.Core.Logic.{◌⊎◌, inl, inr}
-use borrow.Author.Tests.{ltb-true, ltb-false, lt-ltb, le-ltb, eq-eqb, ne_eqb}
+use borrow.Author.Tests.{ltb-true, ltb-false}
 use native.Mathlib.Omega.{arith}
-use lib.Dec.{eqb, ltb, leb}
+use lib.Dec.{ltb}
 use lib.ListN.{length}
-use Rattle.words.specs.Bits.{is_set}
-use Rattle.words.specs.Choice.{pick}
-use Rattle.words.specs.Fields.{bits}
-use Rattle.words.proofs.Choices.{pick_first, pick_second}
-use Rattle.ring.specs.Rings.{put_place}
-use Rattle.ring.specs.declared.Ring.{Ring}
 use Rattle.shape.specs.Calls.{answers}
 use Rattle.shape.proofs.Calls.{call_answers}
 use Rattle.places.specs.Slots.{take_rule}
-use Rattle.places.specs.declared.Slot.{Slot}
-use Rattle.places.specs.declared.Slot.TheVariants.{At, Lost}
-use Rattle.places.specs.declared.Taken.{Taken}
 use Rattle.registers.specs.Fields.{fifo_size, overwrites}
 use Rattle.frame.specs.declared.Frame.{Frame}
-use Rattle.frame.specs.declared.Matched.{Matched}
-use Rattle.frame.specs.declared.Matched.TheVariants.{Nothing, Filter}
 use Rattle.filter.specs.Destination.{Goes, to_fifo, to_buffer, discarded, unmatched, rx_buffer, by_action, by_search}
 use Rattle.filter.specs.Destination.{destination}
 use Rattle.filter.specs.Promises.{FirstIs, NoneMatches}
@@ -57,52 +47,23 @@ accepted_goes w f d time fate e =
 
 -- ---- what a FIFO does
 
-module _ (q : Ring) (size : ℕ) (over : Bool) where
-  taken_room : q.fill < size → (take_rule size over q).slot ≡ At (put_place q size)
-  unfolding take_rule
-  taken_room l = ap (λ (t : Taken). t.slot) (pick_first _ _ (lt-ltb q.fill size l))
-
-  taken_absent : size ≡ 0 → (take_rule size over q).slot ≡ Lost
-  unfolding take_rule
-  taken_absent e =
-      let none : (eqb size 0 || not over) ≡ true = ap (λ (b : Bool). b || not over) (eq-eqb size 0 e) in
-      ap (λ (t : Taken). t.slot) (pick_second _ _ (le-ltb q.fill size (omega arith)) ∙ pick_first _ _ none)
-
-  module _ (some : 0 < size) (full : q.fill ≡ size) where
-    no_room : ltb q.fill size ≡ false
-    no_room = le-ltb q.fill size (omega arith)
-
-    by_mode : (b : Bool) → over ≡ b → (eqb size 0 || not over) ≡ not b
-    by_mode b o = ap (λ (x : Bool). x || not over) (ne_eqb size 0 (λ z. omega arith)) ∙ ap not o
-
-    taken_blocked : over ≡ false → (take_rule size over q).slot ≡ Lost
-    unfolding take_rule
-    taken_blocked o = ap (λ (t : Taken). t.slot) (pick_second _ _ no_room ∙ pick_first _ _ (by_mode false o))
-
-    taken_over : over ≡ true → (take_rule size over q).slot ≡ At q.oldest
-    unfolding take_rule
-    taken_over o = ap (λ (t : Taken). t.slot) (pick_second _ _ no_room ∙ pick_second _ _ (by_mode true o))
-
-fifo_takes : (s : State) (k : ℕ) (m : Matched) (fate : Fate)
+fifo_takes : (s : State) (k : ℕ) (m : Option ℕ) (fate : Fate)
     → fate ≡ slot_says k m (take_rule (fifo_size s.regs k) (overwrites s.regs k) (fifo_ring s k)).slot
     → FifoTakes s k m fate
-fifo_takes s k m fate same =
-    let q = fifo_ring s k in
-    let n = fifo_size s.regs k in
-    let over = overwrites s.regs k in
-    record {
-      room = λ l. same ∙ ap (slot_says k m) (taken_room q n over l);
-      absent = λ z. same ∙ ap (slot_says k m) (taken_absent q n over z);
-      blocking = λ l z o. same ∙ ap (slot_says k m) (taken_blocked q n over l z o);
-      overwriting = λ l z o. same ∙ ap (slot_says k m) (taken_over q n over l z o);
-    }
+unfolding take_rule
+fifo_takes s k m fate same = record {
+  room = λ l. grind arith;
+  absent = λ z. grind arith;
+  blocking = λ l z o. grind arith;
+  overwriting = λ l z o. grind arith;
+}
 
 -- ---- what becomes of the frame, and by which element
 
 -- the element by which a frame goes
-abbrev goes_by : Goes → Matched
+abbrev goes_by : Goes → Option ℕ
 goes_by (to_fifo k priority m) = m
-goes_by (to_buffer b i) = Filter i
+goes_by (to_buffer b i) = Some i
 goes_by (discarded why m) = m
 
 module _ (w : World) (f : Frame) (d : List ℕ) (time : ℕ) (fate : Fate) where
@@ -115,9 +76,9 @@ module _ (w : World) (f : Frame) (d : List ℕ) (time : ℕ) (fate : Fate) where
   goes_becomes (discarded why m) e = e
 
   -- the element that the answer names is the destination's
-  slot_match : (k : ℕ) (m : Matched) (x : Slot) → match_in (slot_says k m x) ≡ m
-  slot_match k m (At p) = refl
-  slot_match k m Lost = refl
+  slot_match : (k : ℕ) (m : Option ℕ) (x : Option ℕ) → match_in (slot_says k m x) ≡ m
+  slot_match k m (Some p) = refl
+  slot_match k m None = refl
 
   goes_match : (g : Goes) → fate ≡ (goes_to w f d time g).answer → match_in fate ≡ goes_by g
   unfolding into_fifo into_buffer into_nothing
@@ -129,31 +90,17 @@ module _ (w : World) (f : Frame) (d : List ℕ) (time : ℕ) (fate : Fate) where
 
 -- ---- the element by which the destination is found
 
-either_by : (t : Bool) (x y : Goes) (m : Matched) → goes_by x ≡ m → goes_by y ≡ m → goes_by (pick t x y) ≡ m
-either_by true x y m p q = p
-either_by false x y m p q = q
-
-buffer_by : (id2 count newdata i : ℕ) → goes_by (rx_buffer id2 count newdata i) ≡ Filter i
+buffer_by : (id2 count newdata i : ℕ) → goes_by (rx_buffer id2 count newdata i) ≡ Some i
 unfolding rx_buffer
-buffer_by id2 count newdata i =
-    either_by (not (eqb (bits 10 9 id2) 0)) _ _ _ refl
-    (either_by (leb count (bits 5 0 id2)) _ _ _ refl
-    (either_by (is_set newdata (bits 5 0 id2)) _ _ _ refl refl))
+buffer_by id2 count newdata i = grind arith
 
-action_by : (action id2 count newdata i : ℕ) → goes_by (by_action action id2 count newdata i) ≡ Filter i
+action_by : (action id2 count newdata i : ℕ) → goes_by (by_action action id2 count newdata i) ≡ Some i
 unfolding by_action
-action_by action id2 count newdata i =
-    either_by (eqb action 1) _ _ _ refl
-    (either_by (eqb action 2) _ _ _ refl
-    (either_by (eqb action 3) _ _ _ refl
-    (either_by (eqb action 4) _ _ _ refl
-    (either_by (eqb action 5) _ _ _ refl
-    (either_by (eqb action 6) _ _ _ refl
-    (buffer_by id2 count newdata i))))))
+action_by action id2 count newdata i = grind (arith, buffer_by id2 count newdata i)
 
-unmatched_by : (anf : ℕ) → goes_by (unmatched anf) ≡ Nothing
+unmatched_by : (anf : ℕ) → goes_by (unmatched anf) ≡ None
 unfolding unmatched
-unmatched_by anf = either_by (eqb anf 0) _ _ _ refl (either_by (eqb anf 1) _ _ _ refl refl)
+unmatched_by anf = grind arith
 
 module _ (w : World) (f : Frame) where
   -- the element that the search answers, and whether there is one
@@ -166,32 +113,28 @@ module _ (w : World) (f : Frame) where
   abbrev First : ℕ → Type 0
   First i = FirstIs w.memory (list_for w f) f.id i
 
-  abbrev None : Type 0
-  None = NoneMatches w.memory (list_for w f) f.id
+  abbrev NoMatch : Type 0
+  NoMatch = NoneMatches w.memory (list_for w f) f.id
 
-  out_by : out_at_once w f ≡ true → goes_by (goes_of w f) ≡ Nothing
+  out_by : out_at_once w f ≡ true → goes_by (goes_of w f) ≡ None
   unfolding destination
-  out_by e = ap goes_by (pick_first _ _ e)
+  out_by e = grind arith
 
   module _ (e : out_at_once w f ≡ false) where
-    first_by : (i : ℕ) → First i → goes_by (goes_of w f) ≡ Filter i
+    first_by : (i : ℕ) → First i → goes_by (goes_of w f) ≡ Some i
     unfolding destination by_search
     first_by i h =
         let same = first_searched w.memory (list_for w f) f.id i h in
-        let there : is_found ≡ true = lt-ltb searched (list_for w f).count (omega (arith, same, h.within)) in
-        ap goes_by (pick_second _ _ e ∙ pick_first _ _ there) ∙ action_by _ _ _ _ _ ∙ ap Filter same
+        grind (arith, same, h.within, action_by)
 
-    none_by : None → goes_by (goes_of w f) ≡ Nothing
+    none_by : NoMatch → goes_by (goes_of w f) ≡ None
     unfolding destination by_search
-    none_by h =
-        let none = none_searched w.memory (list_for w f) f.id h in
-        let past : is_found ≡ false = le-ltb searched (list_for w f).count (omega (arith, none)) in
-        ap goes_by (pick_second _ _ e ∙ pick_second _ _ past) ∙ unmatched_by _
+    none_by h = grind (arith, none_searched w.memory (list_for w f) f.id h, unmatched_by)
 
 -- ---- the whole
 
 module _ (w : World) (f : Frame) (fate : Fate) (by : match_in fate ≡ goes_by (goes_of w f)) where
-  found_first : (i : ℕ) → match_in fate ≡ Filter i → (out_at_once w f ≡ false) × First w f i
+  found_first : (i : ℕ) → match_in fate ≡ Some i → (out_at_once w f ≡ false) × First w f i
   found_first i x = go (out_at_once w f) refl (is_found w f) refl
     where
       go : (o : Bool) → out_at_once w f ≡ o → (t : Bool) → is_found w f ≡ t → (out_at_once w f ≡ false) × First w f i
@@ -205,10 +148,10 @@ module _ (w : World) (f : Frame) (fate : Fate) (by : match_in fate ≡ goes_by (
           let z : ◌≡◌ {A = ℕ} 0 1 = cc (none_by w f e none) in
           absurd (omega arith)
 
-  unfound_none : match_in fate ≡ Nothing → (out_at_once w f ≡ true) ⊎ None w f
+  unfound_none : match_in fate ≡ None → (out_at_once w f ≡ true) ⊎ NoMatch w f
   unfound_none x = go (out_at_once w f) refl (is_found w f) refl
     where
-      go : (o : Bool) → out_at_once w f ≡ o → (t : Bool) → is_found w f ≡ t → (out_at_once w f ≡ true) ⊎ None w f
+      go : (o : Bool) → out_at_once w f ≡ o → (t : Bool) → is_found w f ≡ t → (out_at_once w f ≡ true) ⊎ NoMatch w f
       go true e t y = inl e
       go false e true y =
           let h = search_first w.memory (list_for w f) f.id (ltb-true _ _ y) in
@@ -216,13 +159,9 @@ module _ (w : World) (f : Frame) (fate : Fate) (by : match_in fate ≡ goes_by (
           absurd (omega arith)
       go false e false y = inr (search_none w.memory (list_for w f) f.id (ltb-false _ _ y))
 
-  none_unfound : (out_at_once w f ≡ true) ⊎ None w f → match_in fate ≡ Nothing
+  none_unfound : (out_at_once w f ≡ true) ⊎ NoMatch w f → match_in fate ≡ None
   none_unfound (inl e) = by ∙ out_by w f e
-  none_unfound (inr h) = by ∙ go (out_at_once w f) refl
-    where
-      go : (o : Bool) → out_at_once w f ≡ o → goes_by (goes_of w f) ≡ Nothing
-      go true e = out_by w f e
-      go false e = none_by w f e h
+  none_unfound (inr h) = grind (arith, by, out_by w f, λ (e : out_at_once w f ≡ false). none_by w f e h)
 
 pub frames_told : (w : World) (f : Frame) (d : List ℕ) (time : ℕ) (fate : Fate)
     → (step w (receive f d time)).says ≡ answers fate → Filtered w f fate

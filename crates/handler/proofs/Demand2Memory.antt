@@ -1,5 +1,6 @@
 -- Demand 2, the memory: what a receive stores is read back, and no other word changes.
 -- Assumes nothing.
+use Rattle.std.proofs.Common.{Option, Some, None}
 use Prim.Native.Nat.{ℕ, ◌*◌, ◌^◌, ◌≤◌, ◌<◌, min}
 use mathlib.Core.Path.{◌≡◌, refl, sym, ap, ap₂, subst, ◌∙◌}
 use mathlib.Core.Bool.{Bool, true, false, ◌||◌, or-true}
@@ -10,7 +11,7 @@ use lib.ListN.{length}
 use Rattle.words.specs.Bits.{is_set, with_bit}
 use Rattle.words.specs.Rules.{allowed, first}
 use Rattle.words.specs.Runs.{splice}
-use Rattle.words.proofs.Bits.{set_same}
+use Rattle.words.proofs.BitLaws.{set_same}
 use Rattle.ring.specs.Rings.{Fit, put_place, held}
 use Rattle.ring.specs.declared.Ring.{Ring}
 use Rattle.ring.proofs.Holding.{held_inside}
@@ -20,8 +21,6 @@ use Rattle.shape.proofs.Calls.{call_done, call_answers}
 use Rattle.places.specs.Areas.{place_in, words_at}
 use Rattle.places.specs.Slots.{take_rule}
 use Rattle.places.specs.declared.Area.{Area}
-use Rattle.places.specs.declared.Slot.{Slot}
-use Rattle.places.specs.declared.Slot.TheVariants.{At, Lost}
 use Rattle.places.specs.declared.Taken.{Taken}
 use Rattle.places.proofs.Takes.{take_cases, all_held}
 use Rattle.registers.specs.Fields.{fifo_code, fifo_size, overwrites, buffers, buffer_code}
@@ -29,8 +28,6 @@ use Rattle.registers.proofs.Fifos.{code_lt}
 use Rattle.frame.specs.Malformed.{WellFormed}
 use Rattle.frame.specs.Sizes.{element_bytes, element_words}
 use Rattle.frame.specs.declared.Frame.{Frame}
-use Rattle.frame.specs.declared.Matched.{Matched}
-use Rattle.frame.specs.declared.Matched.TheVariants.{Filter}
 use Rattle.frame.proofs.Forms.{well_formed}
 use Rattle.frame.proofs.SizeLaws.{words_least, words_of_bytes}
 use Rattle.element.specs.Bytes.{length_of, read_count, rx_read}
@@ -64,10 +61,10 @@ use Rattle.handler.specs.Calls.{receive, read_fifo, read_buffer, step}
 use Rattle.handler.specs.Demand2.{read_as, ReadsBack, InMemory}
 
 -- what a ring takes is held
-taken_held : (size : ℕ) (over : Bool) (q : Ring) → Fit q size → (p : ℕ) → (take_rule size over q).slot ≡ At p
+taken_held : (size : ℕ) (over : Bool) (q : Ring) → Fit q size → (p : ℕ) → (take_rule size over q).slot ≡ Some p
     → held (take_rule size over q).ring size p ≡ true
 taken_held size over q fit p =
-    take_cases size over q (λ (t : Taken). t.slot ≡ At p → held t.ring size p ≡ true)
+    take_cases size over q (λ (t : Taken). t.slot ≡ Some p → held t.ring size p ≡ true)
     (λ l e.
     let same : put_place q size ≡ p = cc in
     held_pushed q size fit l p
@@ -174,25 +171,25 @@ module _ (w : World) (f : Frame) (d : List ℕ) (time : ℕ) (out : List ℕ) (s
   formed : WellFormed f (length d)
   formed = well_formed f (length d) passed.formed
 
-  slot_back : (k : ℕ) (m : Matched) → k ≤ 1 → index_of m < 128 → (x : Slot) (q : Ring) (r : Record) (last : List ℕ)
-      → ((p : ℕ) → x ≡ At p → held q (fifo_size s.regs k) p ≡ true)
+  slot_back : (k : ℕ) (m : Option ℕ) → k ≤ 1 → index_of m < 128 → (x : Option ℕ) (q : Ring) (r : Record) (last : List ℕ)
+      → ((p : ℕ) → x ≡ Some p → held q (fifo_size s.regs k) p ≡ true)
       → HoldsFrame s.regs f d time last (answers (slot_says k m x))
       → is_unfit (world (with_fifo s k q) r last) ≡ false
       → ReadsBack s.regs (world (with_fifo s k q) r last) f d time out (slot_says k m x)
   unfolding with_fifo
-  slot_back k m l i (At place) q r last h there fit =
+  slot_back k m l i (Some place) q r last h there fit =
       fifo_is_read (with_fifo s k q) r last (arrival f time m) d out i formed short small fit room k place l
       (ap (λ (n : Ring). held n (fifo_size s.regs k) place) (ring_put s k q) ∙ h place refl) there
-  slot_back k m l i Lost q r last h there fit = tt
+  slot_back k m l i None q r last h there fit = tt
 
   kept_held : (k p : ℕ) → let kept = keep_rule (keeper_of s.regs k) (fifo_ring s k) w.recorded in
-      kept.slot ≡ At p → held kept.ring (fifo_size s.regs k) p ≡ true
+      kept.slot ≡ Some p → held kept.ring (fifo_size s.regs k) p ≡ true
   unfolding keep_rule
   kept_held k =
       taken_held (fifo_size s.regs k) (overwrites s.regs k) (fifo_ring s k)
       (ring_fits s (length w.memory) k passed.sound)
 
-  fifo_back : (k : ℕ) (priority : Bool) (m : Matched) → k ≤ 1 → index_of m < 128
+  fifo_back : (k : ℕ) (priority : Bool) (m : Option ℕ) → k ≤ 1 → index_of m < 128
       → Back (into_fifo w k priority (arrival f time m) d)
   unfolding into_fifo
   fifo_back k priority m l i there fit =
@@ -201,13 +198,13 @@ module _ (w : World) (f : Frame) (d : List ℕ) (time : ℕ) (out : List ℕ) (s
       slot_back k m l i (keep_rule keeper q w.recorded).slot (keep_rule keeper q w.recorded).ring _ _
       (kept_held k) there fit
 
-  buffer_back : (b i : ℕ) → b < buffers s.regs → i < 128 → Back (into_buffer w b (arrival f time (Filter i)) d)
+  buffer_back : (b i : ℕ) → b < buffers s.regs → i < 128 → Back (into_buffer w b (arrival f time (Some i)) d)
   unfolding into_buffer
   buffer_back b i l x there fit =
-      buffer_is_read (with_new_data s (with_bit s.newdata b)) _ _ (arrival f time (Filter i)) d out x formed short small
+      buffer_is_read (with_new_data s (with_bit s.newdata b)) _ _ (arrival f time (Some i)) d out x formed short small
       fit room b l (eq-eqb _ 1 (set_same s.newdata b)) there
 
-  nowhere_back : (why : ℕ) (m : Matched) → Back (into_nothing w why (arrival f time m))
+  nowhere_back : (why : ℕ) (m : Option ℕ) → Back (into_nothing w why (arrival f time m))
   unfolding into_nothing
   nowhere_back why m there fit = tt
 

@@ -1,34 +1,30 @@
 -- The parts of state and record that change, call by call; the others are as they were.
 -- Assumes nothing.
+use Rattle.std.proofs.Common.{Option, Some, None, arith}
 use Prim.Native.Nat.{ℕ}
 use mathlib.Core.Path.{◌≡◌, refl, sym, ap, ◌∙◌, subst}
-use mathlib.Core.Bool.{Bool, true, false, ◌&&◌}
+use mathlib.Core.Bool.{Bool, true, false}
 use mathlib.Core.List.{List, [], ◌∷◌}
 use lib.Dec.{eqb}
 use Rattle.words.specs.Choice.{pick}
 use Rattle.words.proofs.Choices.{pick_second}
 use Rattle.ring.specs.declared.Ring.{Ring}
-use Rattle.places.specs.declared.Slot.{Slot}
-use Rattle.places.specs.declared.Slot.TheVariants.{At, Lost}
-use Rattle.places.specs.declared.Taken.{Taken}
-use Rattle.places.proofs.Takes.{take_cases}
+use Rattle.places.specs.Slots.{take_rule}
 use Rattle.frame.specs.declared.Frame.{Frame}
-use Rattle.frame.specs.declared.Matched.{Matched}
 use Rattle.filter.specs.Destination.{Goes, to_fifo, to_buffer, discarded, reason}
 use Rattle.filter.specs.declared.Reason.TheVariants.{PriorityOnly}
-use Rattle.engine.specs.Buffers.{in_shared_fifo}
 use Rattle.engine.specs.Calls.{World, world, with_state, with_recorded}
-use Rattle.engine.specs.Flags.{raised, raised_if, filling}
+use Rattle.engine.specs.Flags.{raised, filling}
 use Rattle.engine.specs.Keeping.{keep_rule}
 use Rattle.engine.specs.States.{fifo_ring, with_fifo}
 use Rattle.engine.specs.declared.keeping.Keeper.{Keeper}
 use Rattle.engine.specs.declared.keeping.Kept.{Kept}
 use Rattle.engine.specs.declared.state.State.{State}
 use Rattle.engine.specs.declared.state.Record.{Record}
-use Rattle.engine.proofs.Keeps.{keep_cases, kept_slot, kept_ring}
+use Rattle.engine.proofs.Keeps.{keep_cases}
 use Rattle.receiving.specs.Fifos.{keeper_of}
 use Rattle.receiving.specs.Receive.{slot_says, into_fifo, into_buffer, into_nothing, goes_to}
-use Rattle.reporting.specs.Reporting.{shared_sent, sent_record, event_keeper, reports}
+use Rattle.reporting.specs.Reporting.{sent_record, event_keeper, reports}
 use Rattle.reporting.proofs.Calls.{report_cases}
 use Rattle.handler.specs.Changes.{Part, registers, fifo0, fifo1, events, shared, new_data, pending, sent}
 use Rattle.handler.specs.Changes.{cancelled, flags, priority, Same, is_in, fifo_part, parts_by}
@@ -109,24 +105,18 @@ fifo_parts w fifo q = ring_parts w fifo q w.memory false w.recorded
 -- the ring that it had
 same_ring : (s : State) (fifo : ℕ) → with_fifo s fifo (fifo_ring s fifo) ≡ s
 unfolding with_fifo fifo_ring
-same_ring s fifo = go (eqb fifo 0)
-  where
-    go : (b : Bool) → ringed s b (pick b s.fifo0 s.fifo1) ≡ s
-    go true = refl
-    go false = refl
+same_ring s fifo = grind arith
 
 -- what is lost changes no ring
-lost_ring : (k : Keeper) (q : Ring) (r : Record) → (keep_rule k q r).slot ≡ Lost → (keep_rule k q r).ring ≡ q
-lost_ring k q r e =
-    kept_ring k q r
-    ∙ take_cases k.size k.overwrites q (λ (t : Taken). t.slot ≡ Lost → t.ring ≡ q) (λ h x. cc) (λ h z x. refl)
-    (λ h s z x. cc) (sym (kept_slot k q r) ∙ e)
+lost_ring : (k : Keeper) (q : Ring) (r : Record) → (keep_rule k q r).slot ≡ None → (keep_rule k q r).ring ≡ q
+unfolding keep_rule take_rule
+lost_ring k q r e = grind arith
 
-slot_parts : (w : World) (fifo : ℕ) (m : Matched) (q : Ring) (r : Record) (l : List ℕ) (x : Slot)
-    → (x ≡ Lost → q ≡ fifo_ring w.state fifo)
+slot_parts : (w : World) (fifo : ℕ) (m : Option ℕ) (q : Ring) (r : Record) (l : List ℕ) (x : Option ℕ)
+    → (x ≡ None → q ≡ fifo_ring w.state fifo)
     → Stays (parts_by (slot_says fifo m x)) w (world (with_fifo w.state fifo q) r l)
-slot_parts w fifo m q r l (At p) e = ring_parts w fifo q l true r
-slot_parts w fifo m q r l Lost e =
+slot_parts w fifo m q r l (Some p) e = ring_parts w fifo q l true r
+slot_parts w fifo m q r l None e =
     let same : with_fifo w.state fifo q ≡ w.state =
     ap (with_fifo w.state fifo) (e refl) ∙ same_ring w.state fifo in
     subst (λ (s : State). Stays (flags ∷ priority ∷ []) w (world s r l)) (sym same)
@@ -150,24 +140,14 @@ goes_parts w f d time (discarded why m) = drop_parts w (eqb why (reason Priority
 -- ---- call 11
 
 -- a flag leaves the priority
-flag_priority : (r : Record) (on : Bool) (flag : ℕ) → (raised_if r on flag).priority ≡ r.priority
-unfolding raised
-flag_priority r true flag = refl
-flag_priority r false flag = refl
-
-filling_priority : (r : Record) (first fill mark size : ℕ) → (filling r first fill mark size).priority ≡ r.priority
-unfolding filling raised
-filling_priority r first fill mark size = flag_priority _ (eqb fill size) _ ∙ flag_priority _ (eqb fill mark) _
-
 pub keep_priority : (k : Keeper) (q : Ring) (r : Record) → (keep_rule k q r).recorded.priority ≡ r.priority
-unfolding raised
+unfolding raised filling
 keep_priority k q r =
-    keep_cases k q r (λ (x : Kept). x.recorded.priority ≡ r.priority) (λ h. filling_priority r _ _ _ _) refl
-    (λ h. refl)
+    keep_cases k q r (λ (x : Kept). x.recorded.priority ≡ r.priority) (λ h. grind arith) refl (λ h. refl)
 
 pub sent_priority : (s : State) (r : Record) (buffer : ℕ) → (sent_record s r buffer).priority ≡ r.priority
 unfolding raised
-sent_priority s r buffer = flag_priority (raised r 9) (in_shared_fifo s buffer && eqb (shared_sent s buffer).fill 0) 11
+sent_priority s r buffer = grind arith
 
 pub report_parts : (w : World) (buffer : ℕ) (passive : Bool) (time : ℕ)
     → Stays (events ∷ shared ∷ pending ∷ sent ∷ flags ∷ []) w (reports w buffer passive time)

@@ -1,17 +1,17 @@
 -- Flags that are raised: one, those of a ring, those of two lists together. FIFO 0, FIFO 1 and events alike.
 -- Assumes nothing.
+use Rattle.std.specs.Option.{is_some, is_none}
+use Rattle.std.proofs.Math.Bool.{or-false}
 use Prim.Native.Nat.{ℕ, ◌+◌}
 use mathlib.Core.Path.{◌≡◌, refl, sym, ap, ◌∙◌}
 use mathlib.Core.Bool.{Bool, true, false, ◌&&◌, ◌||◌}
 use mathlib.Core.List.{[], ◌∷◌, ◌++◌}
-use borrow.Author.Tests.{eqb-true, eqb-false, eq-eqb, lt-ltb, le-ltb}
+use borrow.Author.Tests.{lt-ltb, le-ltb}
 use native.Mathlib.Omega.{arith}
 use lib.Dec.{eqb}
-use Rattle.words.specs.Bits.{bit, is_set, with_bit}
-use Rattle.words.proofs.Bits.{set_same, set_other}
+use Rattle.words.specs.Bits.{is_set, with_bit}
+use Rattle.words.proofs.BitLaws.{set_same, set_other}
 use Rattle.ring.specs.declared.Ring.{Ring}
-use Rattle.places.specs.declared.Slot.{Slot}
-use Rattle.places.specs.declared.Slot.TheVariants.{At, Lost}
 use Rattle.engine.specs.Flags.{raised, raised_if, filling}
 use Rattle.engine.specs.Keeping.{keep_rule}
 use Rattle.engine.specs.declared.keeping.Keeper.{Keeper}
@@ -20,40 +20,14 @@ use Rattle.engine.specs.declared.state.Record.{Record}
 use Rattle.engine.proofs.Keeps.{keep_cases}
 use Rattle.handler.specs.Records.{Raises, raises, ring_raises}
 
--- ---- tests joined
-
-pub or_false : (a : Bool) → (a || false) ≡ a
-or_false true = refl
-or_false false = refl
-
-pub and_true : (a : Bool) → (a && true) ≡ a
-and_true true = refl
-and_true false = refl
-
-pub or_assoc : (a b c : Bool) → ((a || b) || c) ≡ (a || (b || c))
-or_assoc true b c = refl
-or_assoc false b c = refl
-
 -- a flag that no call clears
 pub kept : (a c : Bool) → (a || c) ≡ (a && true || c)
-kept a c = ap (λ (x : Bool). x || c) (sym (and_true a))
+kept a c = grind arith
 
 -- ---- one flag
 
 set_flag : (w flag n : ℕ) → is_set (with_bit w flag) n ≡ (is_set w n || eqb n flag)
-set_flag w flag n = go (eqb n flag) refl
-  where
-    or_true : (a : Bool) → (a || true) ≡ true
-    or_true true = refl
-    or_true false = refl
-
-    go : (b : Bool) → eqb n flag ≡ b → is_set (with_bit w flag) n ≡ (is_set w n || b)
-    go true e =
-        let q : bit (with_bit w flag) n ≡ 1 =
-        ap (bit (with_bit w flag)) (eqb-true n flag e) ∙ set_same w flag in
-        eq-eqb _ 1 q ∙ sym (or_true (is_set w n))
-    go false e =
-        ap (λ (x : ℕ). eqb x 1) (set_other w flag n (eqb-false n flag e)) ∙ sym (or_false (is_set w n))
+set_flag w flag n = grind (arith, set_same w flag, set_other w flag n)
 
 pub raised_up : (r : Record) (flag n : ℕ) → is_set (raised r flag).flags n ≡ (is_set r.flags n || eqb n flag)
 unfolding raised
@@ -62,15 +36,13 @@ raised_up r flag n = set_flag r.flags flag n
 pub raised_if_up : (r : Record) (on : Bool) (flag n : ℕ)
     → is_set (raised_if r on flag).flags n ≡ (is_set r.flags n || (on && eqb n flag))
 raised_if_up r true flag n = raised_up r flag n
-raised_if_up r false flag n = sym (or_false (is_set r.flags n))
+raised_if_up r false flag n = sym (or-false (is_set r.flags n))
 
 -- ---- lists of flags
 
 pub raises_both : (a b : Raises) (n : ℕ) → raises (a ++ b) n ≡ (raises a n || raises b n)
 raises_both [] b n = refl
-raises_both (f ∷ fs) b n =
-    ap (λ (x : Bool). f.1 && eqb n f.0 || x) (raises_both fs b n)
-    ∙ sym (or_assoc (f.1 && eqb n f.0) (raises fs n) (raises b n))
+raises_both (f ∷ fs) b n = grind (arith, raises_both fs b n)
 
 -- ---- a ring
 
@@ -78,21 +50,8 @@ raises_both (f ∷ fs) b n =
 pub quiet : (first mark size fill n : ℕ) → raises (ring_raises first mark size fill fill false false) n ≡ false
 quiet first mark size fill n = let e = le-ltb fill fill (omega arith) in simp e
 
--- a slot's answer
-abbrev pub is_at : Slot → Bool
-is_at (At p) = true
-is_at Lost = false
-
-abbrev pub is_lost : Slot → Bool
-is_lost (At p) = false
-is_lost Lost = true
-
 four : (r a b c : Bool) → (((r || a) || b) || c) ≡ (r || (a || (b || (c || false))))
-four true a b c = refl
-four false true b c = refl
-four false false true c = refl
-four false false false true = refl
-four false false false false = refl
+four r a b c = grind (arith)
 
 module _ (k : Keeper) (q : Ring) (r : Record) (n : ℕ) where
   abbrev Told : Kept → Type 0
@@ -100,7 +59,7 @@ module _ (k : Keeper) (q : Ring) (r : Record) (n : ℕ) where
       is_set x.recorded.flags n
       ≡ (is_set r.flags n
       || raises
-      (ring_raises k.first k.mark k.size q.fill x.ring.fill (is_at x.slot) (is_lost x.slot)) n)
+      (ring_raises k.first k.mark k.size q.fill x.ring.fill (is_some x.slot) (is_none x.slot)) n)
 
   filling_up : (first fill mark size : ℕ)
       → is_set (filling r first fill mark size).flags n
@@ -115,7 +74,7 @@ module _ (k : Keeper) (q : Ring) (r : Record) (n : ℕ) where
 
   -- a ring whose fill stays raises one flag
   alone : (flag : ℕ) → (is_set r.flags n || eqb n flag) ≡ (is_set r.flags n || (eqb n flag || false))
-  alone flag = ap (λ (x : Bool). is_set r.flags n || x) (sym (or_false (eqb n flag)))
+  alone flag = ap (λ (x : Bool). is_set r.flags n || x) (sym (or-false (eqb n flag)))
 
   pub ring_told : Told (keep_rule k q r)
   ring_told =

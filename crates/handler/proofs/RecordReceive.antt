@@ -1,29 +1,26 @@
 -- The record after a receive: its flags and the priority word, by where the frame goes.
 -- Assumes nothing.
+use Rattle.std.specs.Option.{is_some, is_none}
+use Rattle.std.proofs.Math.Bool.{or-false}
+use Rattle.std.proofs.Common.{Option, Some, None}
 use Prim.Native.Nat.{ℕ, zero, suc, ◌+◌, ◌*◌, ◌/◌, ◌%◌, ◌^◌, ◌≤◌, ◌<◌}
 use mathlib.Core.Path.{◌≡◌, refl, sym, ap, ap₂, ◌∙◌, subst}
-use mathlib.Core.Bool.{Bool, true, false, not, ◌&&◌, ◌||◌}
+use mathlib.Core.Bool.{Bool, true, false, ◌&&◌, ◌||◌}
 use mathlib.Core.List.{List, [], ◌∷◌, ◌++◌}
-use borrow.Author.Tests.{eqb-true}
 use native.Mathlib.Omega.{arith}
-use lib.Dec.{eqb, ltb, leb}
+use lib.Dec.{eqb}
 use lib.ListN.{length}
 use Rattle.words.specs.Bits.{is_set}
 use Rattle.words.specs.Choice.{pick}
-use Rattle.words.specs.Fields.{bits}
 use Rattle.ring.specs.declared.Ring.{Ring}
-use Rattle.places.specs.declared.Slot.{Slot}
-use Rattle.places.specs.declared.Slot.TheVariants.{At, Lost}
 use Rattle.registers.specs.Fields.{fifo_size, fifo_mark}
 use Rattle.registers.specs.declared.Registers.{Registers}
 use Rattle.frame.specs.declared.Frame.{Frame}
-use Rattle.frame.specs.declared.Matched.{Matched}
-use Rattle.frame.specs.declared.Matched.TheVariants.{Nothing, Filter}
 use Rattle.element.specs.declared.Arrival.{Arrival}
 use Rattle.filter.specs.Destination.{Goes, to_fifo, to_buffer, discarded, unmatched, rx_buffer, by_action, by_search}
-use Rattle.filter.specs.Destination.{non_matching, destination}
+use Rattle.filter.specs.Destination.{destination}
 use Rattle.filter.specs.Promises.{Within}
-use Rattle.filter.specs.Search.{filter_at, first_match}
+use Rattle.filter.specs.Search.{filter_at}
 use Rattle.engine.specs.Calls.{World, world}
 use Rattle.engine.specs.Flags.{raised, with_priority, priority_word}
 use Rattle.engine.specs.Keeping.{keep_rule}
@@ -39,31 +36,24 @@ use Rattle.receiving.specs.Receive.{into_buffer, into_nothing, goes_to, receives
 use Rattle.receiving.proofs.Judgements.{ReceiveOpen}
 use Rattle.receiving.proofs.Lists.{index_small}
 use Rattle.receiving.proofs.Outcomes.{goes_within}
-use Rattle.handler.specs.Demand2.{list_for, match_in, out_at_once}
+use Rattle.handler.specs.Demand2.{list_for, match_in}
 use Rattle.handler.specs.Records.{Raises, raises, same, fields, ring_raises}
 use Rattle.handler.specs.Records.{in_buffer, for_priority, index_in, fifo_raises, receive_notes}
 use Rattle.handler.specs.Records.{PriorityFields, PriorityIs, Noted}
 use Rattle.handler.proofs.Parts.{keep_priority}
-use Rattle.handler.proofs.RecordFlags.{or_false, kept, raised_up, raises_both, quiet}
-use Rattle.handler.proofs.RecordFlags.{is_at, is_lost, ring_told}
+use Rattle.handler.proofs.RecordFlags.{kept, raised_up, raises_both, quiet, ring_told}
 
 -- ---- which destination is for priority
 
 module _ (w : World) (f : Frame) where
   abbrev Agrees : Goes → Type 0
   Agrees (to_fifo k p m) = for_priority w f m ≡ p
-  Agrees (to_buffer b i) = for_priority w f (Filter i) ≡ false
+  Agrees (to_buffer b i) = for_priority w f (Some i) ≡ false
   Agrees (discarded why m) = for_priority w f m ≡ eqb why 3
-
-  chosen : (t : Bool) (a b : Goes) → (t ≡ true → Agrees a) → (t ≡ false → Agrees b) → Agrees (pick t a b)
-  chosen true a b p q = p refl
-  chosen false a b p q = q refl
 
   unmatched_agrees : (anf : ℕ) → Agrees (unmatched anf)
   unfolding unmatched
-  unmatched_agrees anf =
-      chosen (eqb anf 0) (to_fifo 0 false Nothing) _ (λ e. refl)
-      (λ e. chosen (eqb anf 1) (to_fifo 1 false Nothing) (discarded 2 Nothing) (λ e. refl) (λ e. refl))
+  unmatched_agrees anf = grind arith
 
   module _ (i : ℕ) where
     abbrev action : ℕ
@@ -72,37 +62,17 @@ module _ (w : World) (f : Frame) where
     abbrev is_for : ℕ → Bool
     is_for a = eqb a 4 || eqb a 5 || eqb a 6
 
-    by : (n : ℕ) → eqb action n ≡ true → is_for action ≡ is_for n
-    by n e = ap is_for (eqb-true action n e)
-
     buffer_agrees : (id2 count newdata : ℕ) → is_for action ≡ false → Agrees (rx_buffer id2 count newdata i)
     unfolding rx_buffer
-    buffer_agrees id2 count newdata z =
-        chosen (not (eqb (bits 10 9 id2) 0)) (discarded 4 (Filter i)) _ (λ e. z)
-        (λ e. chosen (leb count (bits 5 0 id2)) (discarded 5 (Filter i)) _ (λ e. z)
-        (λ e. chosen (is_set newdata (bits 5 0 id2)) (discarded 6 (Filter i)) (to_buffer (bits 5 0 id2) i) (λ e. z)
-        (λ e. z)))
+    buffer_agrees id2 count newdata z = grind arith
 
     action_agrees : (id2 count newdata : ℕ) → Agrees (by_action action id2 count newdata i)
     unfolding by_action
-    action_agrees id2 count newdata =
-        chosen (eqb action 1) (to_fifo 0 false (Filter i)) _ (λ e. by 1 e)
-        (λ e. chosen (eqb action 2) (to_fifo 1 false (Filter i)) _ (λ e. by 2 e)
-        (λ e. chosen (eqb action 3) (discarded 1 (Filter i)) _ (λ e. by 3 e)
-        (λ e. chosen (eqb action 4) (discarded 3 (Filter i)) _ (λ e. by 4 e)
-        (λ x. chosen (eqb action 5) (to_fifo 0 true (Filter i)) _ (λ e. by 5 e)
-        (λ y. chosen (eqb action 6) (to_fifo 1 true (Filter i)) _ (λ e. by 6 e)
-        (λ z. buffer_agrees id2 count newdata (simp (x, y, z))))))))
+    action_agrees id2 count newdata = grind (arith, buffer_agrees id2 count newdata)
 
   pub destination_agrees : Agrees (destination w.state.regs w.memory f w.state.newdata)
   unfolding destination by_search
-  destination_agrees =
-      let l = list_for w f in
-      let i = first_match w.memory l f.id in
-      chosen (out_at_once w f) (discarded 0 Nothing) _ (λ e. refl)
-      (λ e. chosen (ltb i l.count) _ _
-      (λ found. action_agrees i (filter_at w.memory l i).id2 w.state.regs.buffers w.state.newdata)
-      (λ none. unmatched_agrees (non_matching w.state.regs f.xtd)))
+  destination_agrees = grind (arith, action_agrees, unmatched_agrees)
 
 -- ---- the priority word
 
@@ -149,7 +119,7 @@ noted_up : (r : Record) (a : Arrival) (p : Bool) (outcome element n : ℕ)
     → is_set (pick p (prioritised r a outcome element) r).flags n ≡ (is_set r.flags n || (p && eqb n 8))
 unfolding with_priority
 noted_up r a true outcome element n = raised_up r 8 n
-noted_up r a false outcome element n = sym (or_false (is_set r.flags n))
+noted_up r a false outcome element n = sym (or-false (is_set r.flags n))
 
 -- ---- the flags of FIFO 0, FIFO 1, and the others
 
@@ -179,12 +149,9 @@ module _ (w : World) (f : Frame) where
       quiet (4 * k) (fifo_mark w.state.regs k) (fifo_size w.state.regs k) (fifo_ring w.state k).fill n
 
 late : (r a c : Bool) → ((r || a) || c) ≡ (r || (a || (c || false)))
-late true a c = refl
-late false true c = refl
-late false false true = refl
-late false false false = refl
+late r a c = grind arith
 
-module _ (w : World) (f : Frame) (time : ℕ) (p : Bool) (m : Matched) (agrees : for_priority w f m ≡ p)
+module _ (w : World) (f : Frame) (time : ℕ) (p : Bool) (m : Option ℕ) (agrees : for_priority w f m ≡ p)
     (small : index_in m < 128) (ring : Ring) (r : Record) (l : List ℕ) (old : r.priority ≡ w.recorded.priority) where
   abbrev g : Registers
   g = w.state.regs
@@ -193,15 +160,15 @@ module _ (w : World) (f : Frame) (time : ℕ) (p : Bool) (m : Matched) (agrees :
   a = arrival f time m
 
   -- what this ring raises
-  abbrev own : ℕ → Slot → ℕ → Bool
+  abbrev own : ℕ → Option ℕ → ℕ → Bool
   own k slot n =
-      raises (ring_raises (4 * k) (fifo_mark g k) (fifo_size g k) (fifo_ring w.state k).fill ring.fill (is_at slot)
-      (is_lost slot)) n
+      raises (ring_raises (4 * k) (fifo_mark g k) (fifo_size g k) (fifo_ring w.state k).fill ring.fill (is_some slot)
+      (is_none slot)) n
 
-  abbrev last : ℕ → Slot → World
+  abbrev last : ℕ → Option ℕ → World
   last k slot = world (with_fifo w.state k ring) (slot_noted r p a k slot) l
 
-  abbrev Says : ℕ → Slot → Type 0
+  abbrev Says : ℕ → Option ℕ → Type 0
   Says k slot = Noted w (last k slot) (receive_notes w f (slot_says k m slot) (last k slot))
 
   -- its flags, and 8
@@ -219,32 +186,32 @@ module _ (w : World) (f : Frame) (time : ℕ) (p : Bool) (m : Matched) (agrees :
   prior outcome element x y =
       noted_priority r w.recorded.priority a (for_priority w f m) p outcome element old agrees small x y
 
-  fifo_noted : (k : ℕ) → k ≤ 1 → (slot : Slot) → ((place : ℕ) → slot ≡ At place → place < 64)
+  fifo_noted : (k : ℕ) → k ≤ 1 → (slot : Option ℕ) → ((place : ℕ) → slot ≡ Some place → place < 64)
       → ((n : ℕ) → is_set r.flags n ≡ (is_set w.recorded.flags n || own k slot n)) → Says k slot
   unfolding fifo_ring with_fifo
-  fifo_noted zero b (At place) within h = record {
+  fifo_noted zero b (Some place) within h = record {
     flags = λ n.
-        let x = At place in
+        let x = Some place in
         all_up w f (slot_says 0 m x) (last 0 x) (own 0 x n) false n (joined (own 0 x n) 2 place n (h n)) refl
         (still w f 1 n);
     priority = prior 2 place (omega arith) (within place refl);
   }
-  fifo_noted zero b Lost within h = record {
+  fifo_noted zero b None within h = record {
     flags = λ n.
-        all_up w f (slot_says 0 m Lost) (last 0 Lost) (own 0 Lost n) false n (joined (own 0 Lost n) 1 0 n (h n)) refl
+        all_up w f (slot_says 0 m None) (last 0 None) (own 0 None n) false n (joined (own 0 None n) 1 0 n (h n)) refl
         (still w f 1 n);
     priority = prior 1 0 (omega arith) (omega arith);
   }
-  fifo_noted (suc zero) b (At place) within h = record {
+  fifo_noted (suc zero) b (Some place) within h = record {
     flags = λ n.
-        let x = At place in
+        let x = Some place in
         all_up w f (slot_says 1 m x) (last 1 x) false (own 1 x n) n (joined (own 1 x n) 3 place n (h n))
         (still w f 0 n) refl;
     priority = prior 3 place (omega arith) (within place refl);
   }
-  fifo_noted (suc zero) b Lost within h = record {
+  fifo_noted (suc zero) b None within h = record {
     flags = λ n.
-        all_up w f (slot_says 1 m Lost) (last 1 Lost) false (own 1 Lost n) n (joined (own 1 Lost n) 1 0 n (h n))
+        all_up w f (slot_says 1 m None) (last 1 None) false (own 1 None n) n (joined (own 1 None n) 1 0 n (h n))
         (still w f 0 n) refl;
     priority = prior 1 0 (omega arith) (omega arith);
   }
@@ -279,7 +246,7 @@ module _ (w : World) (f : Frame) (d : List ℕ) (time : ℕ) (passed : ReceiveOp
         flags = λ n. all_up w f (stored_buffer b i) v false false n
             (raised_up w.recorded 19 n
             ∙ ap₂ (λ (t u : Bool). is_set w.recorded.flags n || (t && eqb n 8 || u)) (sym e)
-            (sym (or_false (eqb n 19))))
+            (sym (or-false (eqb n 19))))
             (still w f 0 n) (still w f 1 n);
         priority =
             subst
@@ -294,7 +261,7 @@ module _ (w : World) (f : Frame) (d : List ℕ) (time : ℕ) (passed : ReceiveOp
         flags = λ n. all_up w f (dropped why m) v false false n
             (noted_up w.recorded a (eqb why 3) 0 0 n
             ∙ ap (λ (t : Bool). is_set w.recorded.flags n || t)
-            (ap (λ (t : Bool). t && eqb n 8) (sym e) ∙ sym (or_false (for_priority w f m && eqb n 8))))
+            (ap (λ (t : Bool). t && eqb n 8) (sym e) ∙ sym (or-false (for_priority w f m && eqb n 8))))
             (still w f 0 n) (still w f 1 n);
         priority =
             noted_priority w.recorded w.recorded.priority a (for_priority w f m) (eqb why 3) 0 0 refl e

@@ -1,20 +1,18 @@
 -- The record after a report: sent, the shared FIFO emptied, and the event list's flags.
 -- Assumes nothing.
-use Prim.Native.Nat.{ℕ, zero, suc, ◌<◌}
-use mathlib.Core.Path.{◌≡◌, refl, sym, ap, ap₂, ◌∙◌}
+use Rattle.std.specs.Option.{is_some, is_none}
+use Rattle.std.proofs.Math.Bool.{or-false}
+use Prim.Native.Nat.{ℕ, ◌<◌}
+use mathlib.Core.Path.{◌≡◌, sym, ap, ap₂, ◌∙◌}
 use mathlib.Core.Bool.{Bool, true, false, not, ◌&&◌, ◌||◌}
-use borrow.Author.Tests.{leb-true, not-true, lt-ltb, le-ltb, ne_eqb}
+use borrow.Author.Tests.{leb-true, not-true}
 use native.Mathlib.Omega.{arith}
 use lib.Dec.{eqb, ltb, leb}
 use Rattle.words.specs.Bits.{is_set}
-use Rattle.words.specs.Choice.{pick}
 use Rattle.words.proofs.Choices.{and_both}
-use Rattle.ring.specs.Rings.{released}
 use Rattle.ring.specs.declared.Ring.{Ring}
 use Rattle.places.specs.Slots.{take_rule}
-use Rattle.places.specs.declared.Taken.{Taken}
-use Rattle.places.proofs.Takes.{take_cases}
-use Rattle.registers.specs.Fields.{dedicated, shared, is_queue, event_size, event_mark}
+use Rattle.registers.specs.Fields.{dedicated, is_queue, event_size, event_mark}
 use Rattle.engine.specs.Buffers.{in_shared_fifo}
 use Rattle.engine.specs.Calls.{World}
 use Rattle.engine.specs.Flags.{raised}
@@ -30,7 +28,7 @@ use Rattle.reporting.proofs.Calls.{report_cases}
 use Rattle.reporting.proofs.Judgements.{ReportOpen, open_candidate}
 use Rattle.handler.specs.Records.{Raises, raises, raising, ring_raises, report_raises, Noted}
 use Rattle.handler.proofs.Parts.{keep_priority, sent_priority}
-use Rattle.handler.proofs.RecordFlags.{or_false, raised_up, raised_if_up, quiet, is_at, is_lost, ring_told}
+use Rattle.handler.proofs.RecordFlags.{raised_up, raised_if_up, quiet, ring_told}
 
 -- ---- 11: a send of the shared FIFO's buffer empties it where one was held and none is
 
@@ -46,27 +44,10 @@ some_held s buffer e (queue_one a b c) =
     let y : ◌≡◌ {A = ℕ} 0 1 = cc in
     absurd (omega arith)
 
-none_emptied : (fill : ℕ) → false ≡ (ltb 0 fill && eqb fill 0)
-none_emptied zero = refl
-none_emptied (suc n) =
-    let z : suc n ≡ 0 → ⊥ = λ e. omega arith in let held = ne_eqb (suc n) 0 z in go (ltb 0 (suc n)) held
-  where
-    go : (b : Bool) → eqb (suc n) 0 ≡ false → false ≡ (b && eqb (suc n) 0)
-    go true e = sym e
-    go false e = refl
-
 emptied : (s : State) (buffer : ℕ) → (in_shared_fifo s buffer ≡ true → 0 < s.shared.fill)
     → (in_shared_fifo s buffer && eqb (shared_sent s buffer).fill 0)
     ≡ (ltb 0 s.shared.fill && eqb (shared_sent s buffer).fill 0)
-emptied s buffer h = go (in_shared_fifo s buffer) h
-  where
-    go : (t : Bool) → (t ≡ true → 0 < s.shared.fill)
-        → (t && eqb (pick t (released s.shared (shared s.regs) 1) s.shared).fill 0)
-        ≡ (ltb 0 s.shared.fill && eqb (pick t (released s.shared (shared s.regs) 1) s.shared).fill 0)
-    go true x =
-        ap (λ (b : Bool). b && eqb (released s.shared (shared s.regs) 1).fill 0)
-        (sym (lt-ltb 0 s.shared.fill (x refl)))
-    go false x = none_emptied s.shared.fill
+emptied s buffer h = grind (arith, h)
 
 sent_up : (s : State) (r : Record) (buffer n : ℕ)
     → is_set (sent_record s r buffer).flags n
@@ -78,25 +59,15 @@ sent_up s r buffer n =
 
 -- ---- a list that blocks: it takes one exactly where it has room
 
-taken_by_room : (size : ℕ) (q : Ring) → (is_at (take_rule size false q).slot ≡ ltb q.fill size)
-    × (is_lost (take_rule size false q).slot ≡ not (ltb q.fill size))
-taken_by_room size q =
-    take_cases size false q
-    (λ (t : Taken). (is_at t.slot ≡ ltb q.fill size) × (is_lost t.slot ≡ not (ltb q.fill size)))
-    (λ h. (sym (lt-ltb q.fill size h), sym (ap not (lt-ltb q.fill size h))))
-    (λ h z. (sym (le-ltb q.fill size h), sym (ap not (le-ltb q.fill size h))))
-    (λ h s z. never (eqb size 0) z)
-  where
-    never : {A : Type 0} (b : Bool) → (b || true) ≡ false → A
-    never true e = let z : ◌≡◌ {A = ℕ} 0 1 = cc in absurd (omega arith)
-    never false e = let z : ◌≡◌ {A = ℕ} 0 1 = cc in absurd (omega arith)
+taken_by_room : (size : ℕ) (q : Ring) → (is_some (take_rule size false q).slot ≡ ltb q.fill size)
+    × (is_none (take_rule size false q).slot ≡ not (ltb q.fill size))
+unfolding take_rule
+taken_by_room size q = (grind arith, grind arith)
 
 -- ---- the effect
 
 join : (r a b c : Bool) → (((r || a) || b) || c) ≡ (r && true || (a || (b || c)))
-join true a b c = refl
-join false true b c = refl
-join false false b c = refl
+join r a b c = grind arith
 
 module _ (w : World) (buffer : ℕ) (passive : Bool) (time : ℕ) (o : ReportOpen w buffer) where
   abbrev s : State
@@ -128,10 +99,10 @@ module _ (w : World) (buffer : ℕ) (passive : Bool) (time : ℕ) (o : ReportOpe
       let room = ltb s.events.fill (event_size s.regs) in
       let wish = (header_of s w.memory buffer).wish in
       let slot = kept_slot k s.events r in
-      let new : is_at t.slot ≡ (wish && room) =
-      ap is_at slot ∙ (taken_by_room (event_size s.regs) s.events).0 ∙ ap (λ (b : Bool). b && room) (sym y) in
-      let lost : is_lost t.slot ≡ (wish && not room) =
-      ap is_lost slot ∙ (taken_by_room (event_size s.regs) s.events).1 ∙ ap (λ (b : Bool). b && not room) (sym y) in
+      let new : is_some t.slot ≡ (wish && room) =
+      ap is_some slot ∙ (taken_by_room (event_size s.regs) s.events).0 ∙ ap (λ (b : Bool). b && room) (sym y) in
+      let lost : is_none t.slot ≡ (wish && not room) =
+      ap is_none slot ∙ (taken_by_room (event_size s.regs) s.events).1 ∙ ap (λ (b : Bool). b && not room) (sym y) in
       record {
         flags = λ n.
             ring_told k s.events r n
@@ -150,7 +121,7 @@ module _ (w : World) (buffer : ℕ) (passive : Bool) (time : ℕ) (o : ReportOpe
             ap (λ (b : Bool). raises (events s.events.fill (b && room) (b && not room)) n) y
             ∙ quiet 12 (event_mark s.regs) (event_size s.regs) s.events.fill n in
             send_up n
-            ∙ sym (or_false ((is_set w.recorded.flags n || eqb n 9) || (empties && eqb n 11)))
+            ∙ sym (or-false ((is_set w.recorded.flags n || eqb n 9) || (empties && eqb n 11)))
             ∙ join (is_set w.recorded.flags n) (eqb n 9) (empties && eqb n 11) false
             ∙ ap (λ (x : Bool). is_set w.recorded.flags n && true || (eqb n 9 || (empties && eqb n 11 || x)))
             (sym none);

@@ -1,17 +1,17 @@
 -- The record after every call.
 -- Assumes nothing.
-use Prim.Native.Nat.{ℕ, zero, suc, ◌-◌, ◌^◌, ◌≤◌, ◌<◌, min}
+use Rattle.std.proofs.Math.Bool.{or-false}
+use Prim.Native.Nat.{ℕ, ◌-◌, ◌^◌, ◌≤◌, ◌<◌, min}
 use mathlib.Core.Path.{◌≡◌, refl, sym, ap, ◌∙◌}
 use mathlib.Core.Bool.{Bool, true, false, not, ◌&&◌, ◌||◌}
 use mathlib.Core.List.{[]}
-use borrow.Author.Tests.{ltb-true, ltb-false, lt-leb}
 use native.Mathlib.Omega.{arith}
-use lib.Dec.{eqb, ltb, leb}
+use lib.Dec.{eqb}
 use lib.ListN.{length}
-use Rattle.words.specs.Bits.{bit, is_set, without_mask}
+use Rattle.words.specs.Bits.{is_set, without_mask}
 use Rattle.words.specs.Fields.{in_field}
 use Rattle.words.specs.Rules.{allowed, first}
-use Rattle.words.proofs.Bits.{bit_lt, bit_of_zero, cleared_bit, cleared_clear}
+use Rattle.words.proofs.BitLaws.{bit_lt, bit_of_zero, cleared_bit, cleared_clear}
 use Rattle.engine.specs.Calls.{World, Outcome, is_unfit}
 use Rattle.engine.specs.Fitness.{flag_fields, FlagsSound}
 use Rattle.engine.specs.Flags.{raised, cleared}
@@ -32,7 +32,7 @@ use Rattle.handler.specs.Calls.{acknowledge_event, clear_flags, report_status, A
 use Rattle.handler.specs.Records.{raising, notes_of, notes_in, Noted, RecordTells}
 use Rattle.handler.specs.Rows.{rows}
 use Rattle.handler.proofs.Exact.{does, step_cases}
-use Rattle.handler.proofs.RecordFlags.{or_false, kept, raised_up}
+use Rattle.handler.proofs.RecordFlags.{kept, raised_up}
 use Rattle.handler.proofs.RecordReceive.{receive_noted}
 use Rattle.handler.proofs.RecordReport.{report_noted}
 
@@ -41,7 +41,7 @@ unnoted : (w v : World) → v.recorded ≡ w.recorded → Noted w v (raising [])
 unnoted w v e = record {
   flags = λ n.
       ap (λ (r : Record). is_set r.flags n) e
-      ∙ sym (or_false (is_set w.recorded.flags n))
+      ∙ sym (or-false (is_set w.recorded.flags n))
       ∙ kept (is_set w.recorded.flags n) false;
   priority = ap (λ (r : Record). r.priority) e;
 }
@@ -49,42 +49,28 @@ unnoted w v e = record {
 -- ---- call 1
 
 no_flags_set : (n : ℕ) (b : Bool) → is_set 0 n ≡ (b && false || false)
-no_flags_set n true = ap (λ (x : ℕ). eqb x 1) (bit_of_zero n)
-no_flags_set n false = ap (λ (x : ℕ). eqb x 1) (bit_of_zero n)
+no_flags_set n b = grind (arith, bit_of_zero n)
 
 -- ---- call 14
 
 both_bits : (b m : ℕ) → b < 2 → m < 2 → eqb (min b (1 - m)) 1 ≡ (eqb b 1 && not (eqb m 1) || false)
-both_bits zero zero h k = refl
-both_bits zero (suc zero) h k = refl
-both_bits (suc zero) zero h k = refl
-both_bits (suc zero) (suc zero) h k = refl
-both_bits zero (suc (suc m)) h k = absurd (omega arith)
-both_bits (suc zero) (suc (suc m)) h k = absurd (omega arith)
-both_bits (suc (suc b)) m h k = absurd (omega arith)
+both_bits b m h k = grind arith
 
 no_flag : (n : ℕ) → 32 ≤ n → in_field flag_fields n ≡ false
-no_flag n h = let a = lt-leb n 19 (omega arith) in let b = lt-leb n 15 (omega arith) in go (leb 19 n) (leb 0 n) a b
-  where
-    go : (x y : Bool) → leb n 19 ≡ false → leb n 15 ≡ false → (x && leb n 19 || (y && leb n 15 || false)) ≡ false
-    go true true a b = simp (a, b)
-    go true false a b = simp a
-    go false true a b = simp b
-    go false false a b = refl
+no_flag n h = grind arith
 
 masked : (flags mask : ℕ) (r : Record) → r.flags ≡ flags → FlagsSound r → mask < 2 ^ 32 → (n : ℕ)
     → is_set (without_mask 32 flags mask) n ≡ (is_set flags n && not (is_set mask n) || false)
-masked flags mask r same sound h n = go (ltb n 32) refl
-  where
-    go : (t : Bool) → ltb n 32 ≡ t
-        → is_set (without_mask 32 flags mask) n ≡ (is_set flags n && not (is_set mask n) || false)
-    go true e =
-        ap (λ (x : ℕ). eqb x 1) (cleared_bit 32 flags mask n h (ltb-true n 32 e))
-        ∙ both_bits (bit flags n) (bit mask n) (bit_lt flags n) (bit_lt mask n)
-    go false e =
-        let z : bit flags n ≡ 0 = ap (λ (x : ℕ). bit x n) (sym same) ∙ sound n (no_flag n (ltb-false n 32 e)) in
-        ap (λ (x : ℕ). eqb x 1) (cleared_clear 32 flags mask n z)
-        ∙ sym (ap (λ (x : ℕ). eqb x 1 && not (is_set mask n) || false) z)
+masked flags mask r same sound h n =
+    grind (
+      arith,
+      cleared_bit 32 flags mask n h,
+      cleared_clear 32 flags mask n,
+      bit_lt flags n,
+      bit_lt mask n,
+      sound n,
+      no_flag n,
+    )
 
 -- ---- every call
 
@@ -103,7 +89,7 @@ noted w (cancel buffer) m e = record {
   flags = λ n.
       raised_up w.recorded 10 n
       ∙ kept (is_set w.recorded.flags n) (eqb n 10)
-      ∙ ap (λ (x : Bool). is_set w.recorded.flags n && true || x) (sym (or_false (eqb n 10)));
+      ∙ ap (λ (x : Bool). is_set w.recorded.flags n && true || x) (sym (or-false (eqb n 10)));
   priority = refl;
 }
 noted w (ask_choice passive out) m e = unnoted w _ refl

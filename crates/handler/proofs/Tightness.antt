@@ -1,52 +1,36 @@
 -- No second outcome meets a contract: no two that a function leaves mean the same.
 -- Assumes nothing.
-use Prim.Native.Nat.{ℕ}
+use Rattle.std.proofs.Common.{ℕ, Result, Ok, Err}
 use mathlib.Core.Path.{◌≡◌, refl, sym, ap, ◌∙◌}
 use mathlib.Core.List.{List, [], ◌∷◌}
-use Rattle.words.specs.Rules.{Ruling, allowed, refused}
-use Rattle.shape.specs.Calls.{Says, refuses, answers}
-use Rattle.shape.specs.Refusals.{Refusal}
-use Rattle.shape.proofs.Calls.{outcomes_tell_all, made_again}
+use Rattle.shape.specs.Calls.{Says, refuses, answers, outcome, settles}
+use Rattle.shape.proofs.Calls.{made_again}
 use Rattle.registers.specs.declared.Registers.{Registers}
 use Rattle.element.specs.declared.EventHeader.{EventHeader}
 use Rattle.element.specs.declared.RxRead.{RxRead}
-use Rattle.layout.specs.Verdict as Layout
 use Rattle.layout.specs.declared.sections.Section.{Section}
-use Rattle.layout.proofs.OneAnswer.{one_answer}
-use Rattle.engine.specs.Calls.{World, Outcome}
-use Rattle.engine.specs.declared.refusals.Reply.{Reply}
-use Rattle.engine.proofs.Replies.{refusal_of, refusal_back, reply_of, reply_back}
-use Rattle.starting.specs.Starting.{start_says, flat}
+use Rattle.layout.specs.declared.check.LayoutRefusal.{LayoutRefusal}
+use Rattle.layout.proofs.OneAnswer.{refusal, refusal_back as layout_back}
+use Rattle.engine.specs.Answers.{saying, replied, left}
+use Rattle.engine.specs.Calls.{World, world, with_state, Outcome}
+use Rattle.engine.specs.declared.refusals.Refusal.{Refusal}
+use Rattle.engine.specs.declared.state.State.{State}
+use Rattle.engine.specs.declared.state.After.{After}
+use Rattle.engine.proofs.Replies.{refusal_of, refusal_back, answer_of, answer_back, made_of, made_back}
+use Rattle.starting.specs.Starting.{flat}
 use Rattle.starting.specs.declared.Started.{Started}
 use Rattle.receiving.specs.Receive.{Fate}
-use Rattle.receiving.specs.declared.receive.Received.{Received}
 use Rattle.receiving.proofs.Answers.{received_of, received_back}
-use Rattle.taking.specs.declared.reading.ReadAnswer.{ReadAnswer}
-use Rattle.taking.proofs.Answers.{read_of, read_back}
-use Rattle.requesting.specs.declared.requesting.Requested.{Requested}
-use Rattle.requesting.proofs.Answers.{requested_of, requested_back}
+use Rattle.requesting.specs.declared.requesting.AfterRequest.{AfterRequest}
 use Rattle.choosing.specs.Choosing.{Next}
-use Rattle.choosing.specs.declared.asking.ChoiceAnswer.{ChoiceAnswer}
 use Rattle.choosing.proofs.Answers.{choice_of, choice_back}
-use Rattle.events.proofs.Answers.{event_of, event_back}
-use Rattle.overview.specs.Overview as Overview
 use Rattle.overview.specs.declared.Overview.{Overview as Told}
-use Rattle.overview.specs.declared.StatusAnswer.{StatusAnswer}
-use Rattle.overview.specs.declared.StatusAnswer.TheVariants as Status
 use Rattle.handler.specs.Calls.{Call, start, receive, read_fifo, acknowledge_fifo, read_buffer, release_buffer}
 use Rattle.handler.specs.Calls.{request_dedicated, request_shared, cancel, ask_choice, report_sent, read_event}
 use Rattle.handler.specs.Calls.{acknowledge_event, clear_flags, report_status}
 use Rattle.handler.specs.Claims.{Left, meaning, OneOutcome}
 
 -- ---- call 1
-
-abbrev ruling : Says (Unit {0}) → Ruling Refusal
-ruling (refuses a) = refused a
-ruling (answers u) = allowed
-
-ruled_again : (v : Ruling Refusal) → ruling (start_says v) ≡ v
-ruled_again allowed = refl
-ruled_again (refused a) = refl
 
 unflat : List ℕ → List Section
 unflat [] = []
@@ -58,83 +42,91 @@ unfolding unflat
 flat_again [] = refl
 flat_again (s ∷ ss) = ap (λ (l : List Section). s ∷ l) (flat_again ss)
 
-one_start : (w : World) (g : Registers) (a b : Started) → meaning w (start g) a ≡ meaning w (start g) b → a ≡ b
-one_start w g a b e =
-    let p = outcomes_tell_all World (Unit {0}) _ _ _ _ _ _ e in
-    let v : a.verdict ≡ b.verdict =
-    one_answer a.verdict b.verdict
-    (sym (ruled_again (Layout.meaning a.verdict)) ∙ ap ruling p.0 ∙ ruled_again (Layout.meaning b.verdict)) in
-    let ss : a.sections ≡ b.sections = made_again flat unflat flat_again a.sections b.sections p.2 in
-    let z : ◌≡◌ {A = Started}
-    (record { verdict = a.verdict; sections = a.sections; state = a.state; recorded = a.recorded })
-    (record { verdict = b.verdict; sections = b.sections; state = b.state; recorded = b.recorded }) =
-    cc (v, ss, ap (λ (x : World). x.state) p.1, ap (λ (x : World). x.recorded) p.1) in
-    z
+-- what a start left, from what it says and its outcome
+started : World → List ℕ → Says (Unit {0}) → Result Started LayoutRefusal
+started w out (answers u) = Ok (record { sections = unflat out; state = w.state; recorded = w.recorded })
+started w out (refuses n) = Err (refusal n)
 
--- ---- call 15
+start_back : (w : World) (g : Registers) (l : Left (start g))
+    → (let o = meaning w (start g) l in started o.world o.output o.says) ≡ l
+unfolding started
+start_back w g (Ok a) =
+    ap (λ (ss : List Section). Ok (record { sections = ss; state = a.state; recorded = a.recorded }))
+    (flat_again a.sections)
+start_back w g (Err n) = ap Err (layout_back n)
 
-abbrev status_of : Says Told → StatusAnswer
-status_of (answers t) = Status.Told t
-status_of (refuses n) = Status.Refused (refusal_of n.number)
+-- ---- the other calls
 
-status_back : (a : StatusAnswer) → status_of (Overview.meaning a) ≡ a
-status_back (Status.Told t) = refl
-status_back (Status.Refused n) = ap Status.Refused (refusal_back n)
+-- what a call left, with what it was lent to be changed
+beside : {A : Type 0} {r s : A} (m : List ℕ) → r ≡ s → ◌≡◌ {A = A × List ℕ} (r, m) (s, m)
+beside {A = A} m e = ap (λ (x : A). (x, m)) e
 
--- ---- every call
+-- what a request left, and what a cancel or a report did, from what they say and the world after them
+requested_of : Says ℕ → State → Result AfterRequest Refusal
+requested_of (answers buffer) s = Ok (record { buffer = buffer; state = s })
+requested_of (refuses n) s = Err (refusal_of n.number)
 
-one_left : (w : World) (c : Call) (a b : Left c) → meaning w c a ≡ meaning w c b → a ≡ b
-one_left w (start g) = one_start w g
-one_left w (receive f d time) =
-    made_again _
-    (λ (o : Outcome Fate). (
-      record { answer = received_of o.says; state = o.world.state; recorded = o.world.recorded },
-      o.world.memory,
-    ))
-    (λ l. ap (λ (x : Received). (record { answer = x; state = l.0.state; recorded = l.0.recorded }, l.1))
-    (received_back l.0.answer))
-one_left w (read_fifo fifo place out) =
-    made_again _ (λ (o : Outcome RxRead). (read_of o.says, o.output))
-    (λ l. ap (λ (x : ReadAnswer). (x, l.1)) (read_back l.0))
-one_left w (acknowledge_fifo fifo place) =
-    made_again _ (λ (o : Outcome (Unit {0})). record { reply = reply_of o.says; state = o.world.state })
-    (λ l. ap (λ (x : Reply). record { reply = x; state = l.state }) (reply_back l.reply))
-one_left w (read_buffer buffer out) =
-    made_again _ (λ (o : Outcome RxRead). (read_of o.says, o.output))
-    (λ l. ap (λ (x : ReadAnswer). (x, l.1)) (read_back l.0))
-one_left w (release_buffer buffer) =
-    made_again _ (λ (o : Outcome (Unit {0})). record { reply = reply_of o.says; state = o.world.state })
-    (λ l. ap (λ (x : Reply). record { reply = x; state = l.state }) (reply_back l.reply))
-one_left w (request_dedicated buffer h d) =
-    made_again _
-    (λ (o : Outcome ℕ). (record { answer = requested_of o.says; state = o.world.state }, o.world.memory))
-    (λ l. ap (λ (x : Requested). (record { answer = x; state = l.0.state }, l.1)) (requested_back l.0.answer))
-one_left w (request_shared h d) =
-    made_again _
-    (λ (o : Outcome ℕ). (record { answer = requested_of o.says; state = o.world.state }, o.world.memory))
-    (λ l. ap (λ (x : Requested). (record { answer = x; state = l.0.state }, l.1)) (requested_back l.0.answer))
-one_left w (cancel buffer) =
-    made_again _
-    (λ (o : Outcome (Unit {0})).
-    record { reply = reply_of o.says; state = o.world.state; recorded = o.world.recorded })
-    (λ l. ap (λ (x : Reply). record { reply = x; state = l.state; recorded = l.recorded }) (reply_back l.reply))
-one_left w (ask_choice passive out) =
-    made_again _ (λ (o : Outcome Next). (choice_of o.says, o.output))
-    (λ l. ap (λ (x : ChoiceAnswer). (x, l.1)) (choice_back l.0))
-one_left w (report_sent buffer passive time) =
-    made_again _
-    (λ (o : Outcome (Unit {0})).
-    (record { reply = reply_of o.says; state = o.world.state; recorded = o.world.recorded }, o.world.memory))
-    (λ l. ap (λ (x : Reply). (record { reply = x; state = l.0.state; recorded = l.0.recorded }, l.1))
-    (reply_back l.0.reply))
-one_left w (read_event place) = made_again _ (λ (o : Outcome EventHeader). event_of o.says) event_back
-one_left w (acknowledge_event place) =
-    made_again _ (λ (o : Outcome (Unit {0})). record { reply = reply_of o.says; state = o.world.state })
-    (λ l. ap (λ (x : Reply). record { reply = x; state = l.state }) (reply_back l.reply))
-one_left w (clear_flags mask) =
-    made_again _ (λ (o : Outcome (Unit {0})). record { reply = reply_of o.says; recorded = o.world.recorded })
-    (λ l. ap (λ (x : Reply). record { reply = x; recorded = l.recorded }) (reply_back l.reply))
-one_left w report_status = made_again _ (λ (o : Outcome Told). status_of o.says) status_back
+requested_back : (s : State) (r : Result AfterRequest Refusal)
+    → requested_of (saying (λ a. a.buffer) r) (left (λ a. a.state) s r) ≡ r
+unfolding requested_of
+requested_back s (Ok a) = refl
+requested_back s (Err n) = ap Err (refusal_back n)
+
+after_of : Says (Unit {0}) → World → Result After Refusal
+after_of says v = made_of says (record { state = v.state; recorded = v.recorded })
+
+after_back : (w : World) (mem : List ℕ) (r : Result After Refusal)
+    → after_of (replied r) (world (left (λ a. a.state) w.state r) (left (λ a. a.recorded) w.recorded r) mem) ≡ r
+unfolding after_of
+after_back w mem (Ok a) = refl
+after_back w mem (Err n) = ap Err (refusal_back n)
+
+module _ (w : World) where
+  one_read : (a b : Result RxRead Refusal × List ℕ)
+      → outcome (saying (λ h. h) a.0) w a.1 ≡ outcome (saying (λ h. h) b.0) w b.1 → a ≡ b
+  one_read =
+      made_again _ (λ (o : Outcome RxRead). (answer_of o.says, o.output)) (λ l. beside l.1 (answer_back l.0))
+
+  abbrev next : Result State Refusal → World
+  next r = with_state w (left (λ n. n) w.state r)
+
+  one_next : (a b : Result State Refusal) → settles (replied a) (next a) ≡ settles (replied b) (next b) → a ≡ b
+  one_next = made_again _ (λ (o : Outcome (Unit {0})). made_of o.says o.world.state) (made_back w.state)
+
+  abbrev request : Result AfterRequest Refusal → List ℕ → World
+  request r m = world (left (λ a. a.state) w.state r) w.recorded m
+
+  one_request : (a b : Result AfterRequest Refusal × List ℕ)
+      → settles (saying (λ r. r.buffer) a.0) (request a.0 a.1) ≡ settles (saying (λ r. r.buffer) b.0) (request b.0 b.1)
+      → a ≡ b
+  one_request =
+      made_again _ (λ (o : Outcome ℕ). (requested_of o.says o.world.state, o.world.memory))
+      (λ l. beside l.1 (requested_back w.state l.0))
+
+  one_left : (c : Call) (a b : Left c) → meaning w c a ≡ meaning w c b → a ≡ b
+  one_left (start g) = made_again _ (λ (o : Outcome (Unit {0})). started o.world o.output o.says) (start_back w g)
+  one_left (receive f d time) =
+      made_again _
+      (λ (o : Outcome Fate). (received_of o.says o.world.state o.world.recorded, o.world.memory))
+      (λ l. beside l.1 (received_back w.state w.recorded l.0))
+  one_left (read_fifo fifo place out) = one_read
+  one_left (acknowledge_fifo fifo place) = one_next
+  one_left (read_buffer buffer out) = one_read
+  one_left (release_buffer buffer) = one_next
+  one_left (request_dedicated buffer h d) = one_request
+  one_left (request_shared h d) = one_request
+  one_left (cancel buffer) =
+      made_again _ (λ (o : Outcome (Unit {0})). after_of o.says o.world) (after_back w w.memory)
+  one_left (ask_choice passive out) =
+      made_again _ (λ (o : Outcome Next). (choice_of o.says, o.output)) (λ l. beside l.1 (choice_back l.0))
+  one_left (report_sent buffer passive time) =
+      made_again _ (λ (o : Outcome (Unit {0})). (after_of o.says o.world, o.world.memory))
+      (λ l. beside l.1 (after_back w l.1 l.0))
+  one_left (read_event place) = made_again _ (λ (o : Outcome EventHeader). answer_of o.says) answer_back
+  one_left (acknowledge_event place) = one_next
+  one_left (clear_flags mask) =
+      made_again _ (λ (o : Outcome (Unit {0})). made_of o.says o.world.recorded) (made_back w.recorded)
+  one_left report_status = made_again _ (λ (o : Outcome Told). answer_of o.says) answer_back
 
 pub one_outcome : OneOutcome
 one_outcome w c a b x y = one_left w c a b (x ∙ sym y)

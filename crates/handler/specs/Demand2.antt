@@ -1,6 +1,6 @@
 -- Demand 2: the manual decides. Which layouts are accepted, where a received frame goes and what it changes, which
 -- frame is sent. Statements only, over the calls as `step` has them.
-use Rattle.std.specs.Prelude.{ℕ, ◌+◌, ◌*◌, ◌^◌, ◌<◌, ◌≤◌, min, ◌≡◌, Bool, true, false, ◌&&◌, List, ◌↔◌, ◌⊎◌, length, get_or, take}
+use Rattle.std.specs.Prelude.{ℕ, ◌+◌, ◌*◌, ◌^◌, ◌<◌, ◌≤◌, min, ◌≡◌, Bool, true, false, ◌&&◌, List, ◌↔◌, ◌⊎◌, length, get_or, take, Option, Some, None}
 use Rattle.words.specs.Bits.{bit, how_many}
 use Rattle.words.specs.Runs.{splice}
 use Rattle.ring.specs.Rings.{put_place}
@@ -10,8 +10,6 @@ use Rattle.registers.specs.declared.Registers.{Registers}
 use Rattle.frame.specs.Arbitration.{Wins, bits_of}
 use Rattle.frame.specs.Sizes.{element_bytes}
 use Rattle.frame.specs.declared.Frame.{Frame}
-use Rattle.frame.specs.declared.Matched.{Matched}
-use Rattle.frame.specs.declared.Matched.TheVariants.{Nothing, Filter}
 use Rattle.layout.specs.Legal.{Has, Legal}
 use Rattle.layout.specs.Promises.{Refuses}
 use Rattle.element.specs.Fitting.{anmf_of, index_of}
@@ -62,14 +60,14 @@ abbrev pub list_for : World → Frame → FilterList
 list_for w f = list_of w.state.regs f.xtd
 
 -- the filter element that an answer names
-abbrev pub match_in : Fate → Matched
+abbrev pub match_in : Fate → Option ℕ
 match_in (stored fifo place m) = m
-match_in (stored_buffer buffer i) = Filter i
+match_in (stored_buffer buffer i) = Some i
 match_in (lost_to fifo m) = m
 match_in (dropped why m) = m
 
 -- what becomes of a frame that is sent to a FIFO
-pub record FifoTakes (s : State) (fifo : ℕ) (m : Matched) (fate : Fate) : Type 0 where
+pub record FifoTakes (s : State) (fifo : ℕ) (m : Option ℕ) (fate : Fate) : Type 0 where
   pub room : (fifo_ring s fifo).fill < fifo_size s.regs fifo
       → fate ≡ stored fifo (put_place (fifo_ring s fifo) (fifo_size s.regs fifo)) m
   pub absent : fifo_size s.regs fifo ≡ 0 → fate ≡ lost_to fifo m
@@ -88,8 +86,8 @@ pub record Filtered (w : World) (f : Frame) (fate : Fate) : Type 0 where
   -- element i is named exactly where it matches and none below it does, and none is named exactly where none matches;
   -- a frame that is out at once is not searched for
   pub found : (i : ℕ)
-      → (match_in fate ≡ Filter i) ↔ ((out_at_once w f ≡ false) × FirstIs w.memory (list_for w f) f.id i)
-  pub unfound : (match_in fate ≡ Nothing) ↔ ((out_at_once w f ≡ true) ⊎ NoneMatches w.memory (list_for w f) f.id)
+      → (match_in fate ≡ Some i) ↔ ((out_at_once w f ≡ false) × FirstIs w.memory (list_for w f) f.id i)
+  pub unfound : (match_in fate ≡ None) ↔ ((out_at_once w f ≡ true) ⊎ NoneMatches w.memory (list_for w f) f.id)
   -- what an element matches, by action and type
   pub seen : SeenTells f.xtd (list_for w f).xidam f.id
   pub matching : (i : ℕ)
@@ -99,7 +97,7 @@ pub record Filtered (w : World) (f : Frame) (fate : Fate) : Type 0 where
   pub becomes : Becomes w.state (destination w.state.regs w.memory f w.state.newdata) fate
 
 -- a read of a frame in an element of so many data bytes: what it tells, and the output after it; the world stays
-abbrev pub read_as : World → ℕ → Matched → Frame → List ℕ → ℕ → List ℕ → Outcome RxRead
+abbrev pub read_as : World → ℕ → Option ℕ → Frame → List ℕ → ℕ → List ℕ → Outcome RxRead
 read_as w bytes m f d time out =
     let n = min (length d) bytes in
     outcome
@@ -111,7 +109,7 @@ abbrev pub ReadsBack : Registers → World → Frame → List ℕ → ℕ → Li
 ReadsBack g last f d time out (stored fifo place m) =
     step last (read_fifo fifo place out) ≡ read_as last (element_bytes (fifo_code g fifo)) m f d time out
 ReadsBack g last f d time out (stored_buffer buffer i) =
-    step last (read_buffer buffer out) ≡ read_as last (element_bytes (buffer_code g)) (Filter i) f d time out
+    step last (read_buffer buffer out) ≡ read_as last (element_bytes (buffer_code g)) (Some i) f d time out
 ReadsBack g last f d time out (lost_to fifo m) = Unit {0}
 ReadsBack g last f d time out (dropped why m) = Unit {0}
 

@@ -1,14 +1,12 @@
 -- The record: which flags are up and what the priority word is after every call, by what the call is given, what it
 -- answers, the element that decided, and the fills before and after. Statements only.
-use Rattle.std.specs.Prelude.{ℕ, ◌+◌, ◌*◌, ◌^◌, ◌<◌, ◌≡◌, Bool, true, false, not, ◌&&◌, ◌||◌, List, [], ◌∷◌, ◌++◌, eqb, ltb}
+use Rattle.std.specs.Prelude.{ℕ, ◌+◌, ◌*◌, ◌^◌, ◌<◌, ◌≡◌, Bool, true, false, not, ◌&&◌, ◌||◌, List, [], ◌∷◌, ◌++◌, eqb, ltb, Option, Some, None}
 use Rattle.words.specs.Bits.{is_set}
 use Rattle.words.specs.Choice.{pick}
 use Rattle.words.specs.Fields.{bits}
 use Rattle.shape.specs.Calls.{Says, refuses, answers}
 use Rattle.registers.specs.Fields.{fifo_size, fifo_mark, event_size, event_mark}
 use Rattle.frame.specs.declared.Frame.{Frame}
-use Rattle.frame.specs.declared.Matched.{Matched}
-use Rattle.frame.specs.declared.Matched.TheVariants.{Nothing, Filter}
 use Rattle.filter.specs.Search.{filter_at}
 use Rattle.engine.specs.Calls.{World}
 use Rattle.engine.specs.States.{fifo_ring}
@@ -81,14 +79,14 @@ in_buffer (lost_to fifo m) = false
 in_buffer (dropped why m) = false
 
 -- the filter element that matched is for priority: its action is 4, 5 or 6
-abbrev pub for_priority : World → Frame → Matched → Bool
-for_priority w f Nothing = false
-for_priority w f (Filter i) =
+abbrev pub for_priority : World → Frame → Option ℕ → Bool
+for_priority w f None = false
+for_priority w f (Some i) =
     let action = (filter_at w.memory (list_for w f) i).action in eqb action 4 || eqb action 5 || eqb action 6
 
-abbrev pub index_in : Matched → ℕ
-index_in Nothing = 0
-index_in (Filter i) = i
+abbrev pub index_in : Option ℕ → ℕ
+index_in None = 0
+index_in (Some i) = i
 
 -- 0 no FIFO, 1 lost, 2 and 3 stored in FIFO 0 and 1
 abbrev pub outcome_in : Fate → ℕ

@@ -1,6 +1,6 @@
 -- The paper's ★ cases: one table, one claim. In each row the calls and the rules give what the paper says. Beside it,
 -- a table of a memory's lengths.
-use Rattle.std.specs.Prelude.{ℕ, ◌-◌, ◌≡◌, Bool, true, false, List, [], ◌∷◌, ◌++◌, length, take, replicate}
+use Rattle.std.specs.Prelude.{ℕ, ◌-◌, ◌≡◌, Bool, true, false, List, [], ◌∷◌, ◌++◌, length, take, replicate, Some, None}
 use Rattle.words.specs.Runs.{part}
 use Rattle.shape.specs.Calls.{Says, refuses, answers, done}
 use Rattle.shape.specs.Refusals.{names}
@@ -8,7 +8,6 @@ use Rattle.registers.specs.declared.Registers.{Registers}
 use Rattle.frame.specs.Arbitration.{rank_of}
 use Rattle.frame.specs.Sizes.{element_words}
 use Rattle.frame.specs.declared.Frame.{Frame}
-use Rattle.frame.specs.declared.Matched.TheVariants.{Nothing, Filter}
 use Rattle.filter.specs.Destination.{reason}
 use Rattle.filter.specs.declared.Reason.TheVariants.{Reject}
 use Rattle.engine.specs.Calls.{World, world}
@@ -120,12 +119,12 @@ stars =
     layout_a 2560 2560 0x0004025C 0x06020428 gives refuses (names 15 2 3)
     ∷ layout_a 2560 2560 0x00040260 0x060225C0 gives done
     ∷ layout_a 2560 2560 0x00040260 0x060225C4 gives refuses (names 14 6 7)
-    ∷ receive_b 0x15 gives answers (stored 1 0 (Filter 1))
-    ∷ receive_b 0x16 gives answers (dropped (reason Reject) (Filter 0))
-    ∷ receive_b 0x20 gives answers (dropped (reason Reject) (Filter 0))
+    ∷ receive_b 0x15 gives answers (stored 1 0 (Some 1))
+    ∷ receive_b 0x16 gives answers (dropped (reason Reject) (Some 0))
+    ∷ receive_b 0x20 gives answers (dropped (reason Reject) (Some 0))
     ∷ receive_b 0x130 gives answers (stored_buffer 4 2)
-    ∷ receive_b 0x720 gives answers (stored 0 0 (Filter 3))
-    ∷ receive_b 0x740 gives answers (stored 0 0 Nothing)
+    ∷ receive_b 0x720 gives answers (stored 0 0 (Some 3))
+    ∷ receive_b 0x740 gives answers (stored 0 0 None)
     ∷ words_stored 0 (fast 0x123 8) (1 ∷ 2 ∷ 3 ∷ 4 ∷ 5 ∷ 6 ∷ 7 ∷ 8 ∷ []) 0x1234
     gives (0x048C0000 ∷ 0x02381234 ∷ 0x04030201 ∷ 0x08070605 ∷ [])
     ∷ rank_of (classic false false 0x100) gives 0x20000000

@@ -2,41 +2,42 @@
 // The contract of each is that what it returns means what its definition says.
 #![tactic(auto)]
 
-// State, record and registers, and a frame.
-pub use engine::state::{Record, State};
-pub use frame::Frame;
-pub use layout::check::MEMORY_MOST;
-pub use registers::Registers;
-pub use registers::kinds::{Gfc, Rxbc, Rxesc, Rxfc, Sidfc, Txbc, Txefc, Txesc, Xidam, Xidfc};
-pub use ring::Ring;
-pub use words::WordAddress;
-
-// Refusals 20 to 30, and the answer of a call that has nothing to tell.
-pub use engine::refusals::{Refusal, Reply};
-
-// What the calls give back, and what a request brings.
 ghost use Rattle.engine.specs.Calls.{world};
 ghost use Rattle.handler.specs.Calls as Call;
 ghost use Rattle.handler.specs.Claims.{Claim};
 
-pub use choosing::asking::{ChoiceAnswer, Chosen};
-pub use element::{EventHeader, RxHeader, RxRead, TxHeader};
-pub use events::{AfterAcknowledge, EventAnswer};
-pub use filter::Reason;
-pub use frame::Matched;
-pub use layout::check::Verdict;
-pub use layout::sections::Section;
-pub use overview::{Cleared, Overview, RingStatus, StatusAnswer};
-pub use receiving::receive::{AfterReceive, Received};
-pub use reporting::report::AfterReport;
-pub use requesting::cancelling::AfterCancel;
-pub use requesting::requesting::{AfterRequest, Requested};
-pub use starting::Started;
-pub use taking::reading::ReadAnswer;
-pub use taking::releasing::AfterRelease;
+// State, record and registers, and a frame.
+pub use engine::state::{After, Record, State};
+pub use frame::Frame;
+pub use layout::check::MEMORY_MOST;
+pub use registers::Registers;
+pub use registers::kinds::{
+    Gfc, Register, Rxbc, Rxesc, Rxfc, SectionRegister, Sidfc, Txbc, Txefc, Txesc, Xidam, Xidfc,
+};
+pub use ring::Ring;
+pub use words::WordAddress;
 
-// 1: starts, where the layout is legal, with an empty state; else old state and record come back.
-pub fn start(old: State, recorded: Record, regs: Registers, mem: &[u32]) -> Started
+// Refusals 20 to 30, and those of a start.
+pub use engine::refusals::Refusal;
+pub use layout::check::LayoutRefusal;
+
+// What the calls give back, and what a request brings.
+pub use choosing::asking::Chosen;
+pub use element::{EventHeader, RxHeader, RxRead, TxHeader};
+pub use filter::Reason;
+pub use layout::sections::Section;
+pub use overview::{Overview, RingStatus};
+pub use receiving::receive::{AfterReceive, Received};
+pub use requesting::requesting::AfterRequest;
+pub use starting::Started;
+
+// 1: starts, where the layout is legal, with an empty state and record.
+pub fn start(
+    old: State,
+    recorded: Record,
+    regs: Registers,
+    mem: &[u32],
+) -> Result<Started, LayoutRefusal>
     ensures { Claim (world old recorded mem.now) (Call.start regs) result }
 {
     starting::start(old, recorded, regs, mem)
@@ -50,7 +51,7 @@ pub fn receive(
     f: Frame,
     bytes: &[u8],
     time: u16,
-) -> AfterReceive
+) -> Result<AfterReceive, Refusal>
     ensures { Claim (world s recorded mem.old) (Call.receive f bytes.now time)
         (result, mem.new) }
 {
@@ -65,7 +66,7 @@ pub fn read_fifo(
     fifo: u32,
     place: u32,
     out: &mut [u8],
-) -> ReadAnswer
+) -> Result<RxRead, Refusal>
     ensures { Claim (world s recorded mem.now) (Call.read_fifo fifo place out.old)
         (result, out.new) }
 {
@@ -79,7 +80,7 @@ pub fn acknowledge_fifo(
     mem: &[u32],
     fifo: u32,
     place: u32,
-) -> AfterRelease
+) -> Result<State, Refusal>
     ensures { Claim (world s recorded mem.now) (Call.acknowledge_fifo fifo place) result }
 {
     taking::releasing::acknowledge_fifo(s, recorded, mem, fifo, place)
@@ -92,7 +93,7 @@ pub fn read_buffer(
     mem: &[u32],
     buffer: u32,
     out: &mut [u8],
-) -> ReadAnswer
+) -> Result<RxRead, Refusal>
     ensures { Claim (world s recorded mem.now) (Call.read_buffer buffer out.old)
         (result, out.new) }
 {
@@ -100,7 +101,12 @@ pub fn read_buffer(
 }
 
 // 6: releases an Rx buffer, so that a frame can be stored in it again.
-pub fn release_buffer(s: State, recorded: Record, mem: &[u32], buffer: u32) -> AfterRelease
+pub fn release_buffer(
+    s: State,
+    recorded: Record,
+    mem: &[u32],
+    buffer: u32,
+) -> Result<State, Refusal>
     ensures { Claim (world s recorded mem.now) (Call.release_buffer buffer) result }
 {
     taking::releasing::release_buffer(s, recorded, mem, buffer)
@@ -114,7 +120,7 @@ pub fn request_dedicated(
     buffer: u32,
     h: TxHeader,
     bytes: &[u8],
-) -> AfterRequest
+) -> Result<AfterRequest, Refusal>
     ensures { Claim (world s recorded mem.old) (Call.request_dedicated buffer h bytes.now)
         (result, mem.new) }
 {
@@ -128,7 +134,7 @@ pub fn request_shared(
     mem: &mut [u32],
     h: TxHeader,
     bytes: &[u8],
-) -> AfterRequest
+) -> Result<AfterRequest, Refusal>
     ensures { Claim (world s recorded mem.old) (Call.request_shared h bytes.now)
         (result, mem.new) }
 {
@@ -136,7 +142,7 @@ pub fn request_shared(
 }
 
 // 9: cancels the request of a buffer that is not in a shared FIFO.
-pub fn cancel(s: State, recorded: Record, mem: &[u32], buffer: u32) -> AfterCancel
+pub fn cancel(s: State, recorded: Record, mem: &[u32], buffer: u32) -> Result<After, Refusal>
     ensures { Claim (world s recorded mem.now) (Call.cancel buffer) result }
 {
     requesting::cancelling::cancel(s, recorded, mem, buffer)
@@ -149,7 +155,7 @@ pub fn ask_choice(
     mem: &[u32],
     passive: bool,
     out: &mut [u8],
-) -> ChoiceAnswer
+) -> Result<Option<Chosen>, Refusal>
     ensures { Claim (world s recorded mem.now) (Call.ask_choice passive out.old)
         (result, out.new) }
 {
@@ -164,7 +170,7 @@ pub fn report_sent(
     buffer: u32,
     passive: bool,
     time: u16,
-) -> AfterReport
+) -> Result<After, Refusal>
     ensures { Claim (world s recorded mem.old) (Call.report_sent buffer passive time)
         (result, mem.new) }
 {
@@ -172,28 +178,38 @@ pub fn report_sent(
 }
 
 // 12: reads the event at a held place.
-pub fn read_event(s: State, recorded: Record, mem: &[u32], place: u32) -> EventAnswer
+pub fn read_event(
+    s: State,
+    recorded: Record,
+    mem: &[u32],
+    place: u32,
+) -> Result<EventHeader, Refusal>
     ensures { Claim (world s recorded mem.now) (Call.read_event place) result }
 {
     events::read_event(s, recorded, mem, place)
 }
 
 // 13: releases all events held up to and including a place.
-pub fn acknowledge_event(s: State, recorded: Record, mem: &[u32], place: u32) -> AfterAcknowledge
+pub fn acknowledge_event(
+    s: State,
+    recorded: Record,
+    mem: &[u32],
+    place: u32,
+) -> Result<State, Refusal>
     ensures { Claim (world s recorded mem.now) (Call.acknowledge_event place) result }
 {
     events::acknowledge_event(s, recorded, mem, place)
 }
 
 // 14: clears the flags of a mask.
-pub fn clear_flags(s: State, recorded: Record, mem: &[u32], mask: u32) -> Cleared
+pub fn clear_flags(s: State, recorded: Record, mem: &[u32], mask: u32) -> Result<Record, Refusal>
     ensures { Claim (world s recorded mem.now) (Call.clear_flags mask) result }
 {
     overview::clear_flags(s, recorded, mem, mask)
 }
 
 // 15: fills, oldest and put places, and how many Tx buffers are pending.
-pub fn report_status(s: State, recorded: Record, mem: &[u32]) -> StatusAnswer
+pub fn report_status(s: State, recorded: Record, mem: &[u32]) -> Result<Overview, Refusal>
     ensures { Claim (world s recorded mem.now) Call.report_status result }
 {
     overview::report_status(s, recorded, mem)

@@ -11,7 +11,7 @@ use lib.ListN.{length}
 use Rattle.words.specs.Choice.{pick}
 use Rattle.words.specs.Bits.{bit, is_set, with_bit, without_mask, without_bit}
 use Rattle.words.specs.Runs.{splice}
-use Rattle.words.proofs.Bits.{bit_lt, bit_of_and, set_other}
+use Rattle.words.proofs.BitLaws.{bit_lt, bit_of_and, set_other}
 use Rattle.registers.specs.Fields.{buffers}
 use Rattle.registers.specs.declared.Registers.{Registers}
 use Rattle.places.specs.Areas.{area_end, place_in, words_at}

@@ -1,8 +1,9 @@
 -- The frames in the book are those that the rules sent there: of each call, what it adds is what was meant.
 -- Assumes nothing.
+use Rattle.std.proofs.Common.{Option, Some, None}
 use Prim.Native.Nat.{ℕ, zero, suc, ◌≤◌}
 use mathlib.Core.Path.{◌≡◌, refl, sym, ap, ◌∙◌, subst}
-use mathlib.Core.Bool.{Bool, true, false, not, ◌&&◌}
+use mathlib.Core.Bool.{not, ◌&&◌}
 use mathlib.Core.List.{List, [], ◌∷◌, ◌++◌, map, map-append, append-nil, append_assoc, reverse, reverse-append}
 use native.Mathlib.Omega.{arith}
 use lib.Dec.{eqb}
@@ -10,14 +11,11 @@ use lib.ListN.{length}
 use Rattle.words.specs.Choice.{pick}
 use Rattle.frame.specs.Malformed.{malformed}
 use Rattle.frame.specs.declared.Frame.{Frame}
-use Rattle.frame.specs.declared.Matched.{Matched}
 use Rattle.registers.specs.Fields.{fifo_size, overwrites}
 use Rattle.registers.specs.declared.Registers.{Registers}
 use Rattle.filter.specs.Destination.{Goes, to_fifo, to_buffer, discarded, destination}
 use Rattle.filter.specs.Promises.{Within}
 use Rattle.filter.proofs.Bounds.{destination_is_within}
-use Rattle.places.specs.declared.Slot.{Slot}
-use Rattle.places.specs.declared.Slot.TheVariants.{At, Lost}
 use Rattle.areas.specs.Areas.{fifo_area}
 use Rattle.shape.specs.Calls.{Says, refuses, answers, Outcome, effect}
 use Rattle.shape.specs.Histories.{Told, trace, book, noted}
@@ -50,24 +48,19 @@ kept b = reverse b.buffered
 
 -- ---- an arrival
 
-arrival_words : (size : ℕ) (l : Ledger) (ws : List ℕ) (slot : Slot)
+arrival_words : (size : ℕ) (l : Ledger) (ws : List ℕ) (slot : Option ℕ)
     → map words_of (note_arrival size l ws slot).arrived ≡ map words_of l.arrived ++ ws ∷ []
 unfolding note_arrival
-arrival_words size l ws (At p) = map-append words_of l.arrived _
-arrival_words size l ws Lost = map-append words_of l.arrived _
+arrival_words size l ws (Some p) = map-append words_of l.arrived _
+arrival_words size l ws None = map-append words_of l.arrived _
 
 module _ (g : Registers) (b : Book) (f : Frame) (d : List ℕ) (time : ℕ) where
-  slot_came : (k fifo : ℕ) → k ≤ 1 → fifo ≤ 1 → (m : Matched) (slot : Slot)
+  slot_came : (k fifo : ℕ) → k ≤ 1 → fifo ≤ 1 → (m : Option ℕ) (slot : Option ℕ)
       → came (note_fifo g b f d time k m slot) fifo
       ≡ came b fifo ++ pick (eqb k fifo) (frame_in (fifo_area g fifo) f d time m ∷ []) []
   unfolding fifo_ledger with_fifo_ledger
-  slot_came zero zero h i m slot = arrival_words (fifo_size g 0) b.fifo0 _ slot
-  slot_came (suc zero) (suc zero) h i m slot = arrival_words (fifo_size g 1) b.fifo1 _ slot
-  slot_came zero (suc zero) h i m slot = sym (append-nil _)
-  slot_came (suc zero) zero h i m slot = sym (append-nil _)
-  slot_came (suc (suc k)) fifo h i m slot = absurd (omega arith)
-  slot_came zero (suc (suc k)) h i m slot = absurd (omega arith)
-  slot_came (suc zero) (suc (suc k)) h i m slot = absurd (omega arith)
+  slot_came k fifo h i m slot =
+      grind (arith, append-nil (came b fifo), arrival_words (fifo_size g 0) b.fifo0, arrival_words (fifo_size g 1) b.fifo1)
 
   -- by the fate that the rules give a frame
   fate_came : (fifo : ℕ) → fifo ≤ 1 → (newdata : ℕ) (goes : Goes) → Within g newdata goes
@@ -76,11 +69,11 @@ module _ (g : Registers) (b : Book) (f : Frame) (d : List ℕ) (time : ℕ) wher
   fate_came fifo i newdata (to_fifo k priority m) h =
       by_slot (expect_slot (fifo_size g k) (overwrites g k) (fifo_ledger b k))
     where
-      by_slot : (slot : Slot)
+      by_slot : (slot : Option ℕ)
           → came (note_fate g b f d time (slot_says k m slot)) fifo
           ≡ came b fifo ++ pick (eqb k fifo) (frame_in (fifo_area g fifo) f d time m ∷ []) []
-      by_slot (At p) = slot_came k fifo h.0 i m (At p)
-      by_slot Lost = slot_came k fifo h.0 i m Lost
+      by_slot (Some p) = slot_came k fifo h.0 i m (Some p)
+      by_slot None = slot_came k fifo h.0 i m None
   fate_came fifo i newdata (to_buffer buffer j) h = sym (append-nil _)
   fate_came fifo i newdata (discarded why m) h = sym (append-nil _)
 
@@ -88,9 +81,9 @@ module _ (g : Registers) (b : Book) (f : Frame) (d : List ℕ) (time : ℕ) wher
   unfolding with_fifo_ledger
   fate_kept (to_fifo k priority m) = by_slot (expect_slot (fifo_size g k) (overwrites g k) (fifo_ledger b k))
     where
-      by_slot : (slot : Slot) → kept (note_fate g b f d time (slot_says k m slot)) ≡ kept b ++ []
-      by_slot (At p) = sym (append-nil _)
-      by_slot Lost = sym (append-nil _)
+      by_slot : (slot : Option ℕ) → kept (note_fate g b f d time (slot_says k m slot)) ≡ kept b ++ []
+      by_slot (Some p) = sym (append-nil _)
+      by_slot None = sym (append-nil _)
   fate_kept (to_buffer buffer j) = reverse-append (_ ∷ []) b.buffered
   fate_kept (discarded why m) = sym (append-nil _)
 
@@ -107,16 +100,7 @@ release_came : (b : Book) (of place fifo : ℕ)
     → (fifo_ledger (with_fifo_ledger b of (note_release (fifo_ledger b of) place)) fifo).arrived
     ≡ (fifo_ledger b fifo).arrived
 unfolding fifo_ledger with_fifo_ledger release_oldest
-release_came b of place fifo = go (eqb of 0) (eqb fifo 0)
-  where
-    go : (t u : Bool)
-        → (let l = pick t b.fifo0 b.fifo1 in
-        (pick u (pick t (note_release l place) b.fifo0) (pick t b.fifo1 (note_release l place))).arrived)
-        ≡ (pick u b.fifo0 b.fifo1).arrived
-    go true true = refl
-    go true false = refl
-    go false true = refl
-    go false false = refl
+release_came b of place fifo = grind arith
 
 -- what is seen of the book, and what frames bring to it: each call adds what was meant
 module _ {A : Type 0} (g : Registers) (began : List ℕ) (seen : Book → List A) (brings : Brings A) where
@@ -153,11 +137,11 @@ module _ {A : Type 0} (g : Registers) (began : List ℕ) (seen : Book → List A
   all_add : ((b : Book) (w : World) → Standing g began b w → (c : Call) → Adds b c (step w c).says)
       → (b : Book) (w : World) → Standing g began b w → (cs : List Call) → Each InRun (trace step w cs)
       → seen (book (note g) b (trace step w cs)) ≡ seen b ++ meant brings g began b (trace step w cs)
-  all_add adds b w h [] each = sym (append-nil _)
-  all_add adds b w h (c ∷ cs) each =
+  all_add adds b w h [] kept = sym (append-nil _)
+  all_add adds b w h (c ∷ cs) kept =
       let next = note g b c (step w c).says in
       let v = (step w c).world in
-      all_add adds next v (step_kept g began b w h c each.0) cs each.1
+      all_add adds next v (step_kept g began b w h c kept.0) cs kept.1
       ∙ ap (λ (xs : List A). xs ++ meant brings g began next (trace step v cs)) (adds b w h c)
       ∙ append_assoc (seen b) (noted [] (λ a. meant_by brings g began b c) (step w c).says)
       (meant brings g began next (trace step v cs))

@@ -1,5 +1,6 @@
 -- Calls 2 to 6: the book tells what they tell, and agrees after them.
 -- Assumes nothing.
+use Rattle.std.proofs.Common.{Option, Some, None}
 use Prim.Native.Nat.{ℕ, ◌≤◌, ◌<◌}
 use mathlib.Core.Path.{◌≡◌, refl, sym, ap, ◌∙◌, subst}
 use mathlib.Core.Bool.{Bool, true, false, not, ◌&&◌, ◌||◌}
@@ -14,8 +15,6 @@ use Rattle.words.proofs.Ranges.{only_none}
 use Rattle.ring.specs.Rings.{released_through}
 use Rattle.frame.specs.Malformed.{malformed}
 use Rattle.frame.specs.declared.Frame.{Frame}
-use Rattle.frame.specs.declared.Matched.{Matched}
-use Rattle.frame.specs.declared.Matched.TheVariants.{Filter}
 use Rattle.registers.specs.Fields.{fifo_size, overwrites, buffers}
 use Rattle.registers.specs.declared.Registers.{Registers}
 use Rattle.layout.specs.Legal.{Legal}
@@ -25,8 +24,6 @@ use Rattle.filter.proofs.Bounds.{destination_is_within}
 use Rattle.filter.proofs.OwnSection.{destination_reads_its_list}
 use Rattle.places.specs.Areas.{area_range, place_in}
 use Rattle.places.specs.Slots.{take_rule, slot_memory}
-use Rattle.places.specs.declared.Slot.{Slot}
-use Rattle.places.specs.declared.Slot.TheVariants.{At, Lost}
 use Rattle.places.proofs.Stores.{store_kept}
 use Rattle.areas.specs.Areas.{fifo_area, buffer_area}
 use Rattle.areas.proofs.Rooms.{fifo_roomy, buffer_roomy}
@@ -88,12 +85,12 @@ module _ (began : List ℕ) (b : Book) (w : World) (fit : is_unfit w ≡ false)
     abbrev After : Effect Fate → Type 0
     After e = BookAgrees g began (note_fate g b f d time e.answer) e.world.state e.world.memory
 
-    slot_is_noted : (fifo : ℕ) (m : Matched) (slot : Slot)
+    slot_is_noted : (fifo : ℕ) (m : Option ℕ) (slot : Option ℕ)
         → note_fifo g b f d time fifo m slot ≡ note_fate g b f d time (slot_says fifo m slot)
-    slot_is_noted fifo m (At p) = refl
-    slot_is_noted fifo m Lost = refl
+    slot_is_noted fifo m (Some p) = refl
+    slot_is_noted fifo m None = refl
 
-    goes_into_fifo : (fifo : ℕ) (priority : Bool) (m : Matched) → fifo ≤ 1
+    goes_into_fifo : (fifo : ℕ) (priority : Bool) (m : Option ℕ) → fifo ≤ 1
         → After (into_fifo w fifo priority (arrival f time m) d)
     unfolding into_fifo keep_rule
     goes_into_fifo fifo priority m l =
@@ -111,13 +108,13 @@ module _ (began : List ℕ) (b : Book) (w : World) (fit : is_unfit w ≡ false)
         (arrival_keeps a q mem x.holds.room x.holds.ring (overwrites g fifo) ws long)
         (arrival_agrees a (fifo_ledger b fifo) q mem x (overwrites g fifo) ws long))
 
-    goes_into_buffer : (buffer i : ℕ) → buffer < buffers g → After (into_buffer w buffer (arrival f time (Filter i)) d)
+    goes_into_buffer : (buffer i : ℕ) → buffer < buffers g → After (into_buffer w buffer (arrival f time (Some i)) d)
     unfolding into_buffer
     goes_into_buffer buffer i l =
         let a = buffer_area g in
-        let ws = frame_in a f d time (Filter i) in
+        let ws = frame_in a f d time (Some i) in
         let room = buffer_roomy g (length mem) legal in
-        let long = arrival_length (arrival f time (Filter i)) d a room.header in
+        let long = arrival_length (arrival f time (Some i)) d a room.header in
         rw h.newdata
         (buffers_agreed g began b w.state mem legal h (splice mem (place_in a buffer) ws)
         (with_bit b.newdata buffer) (record { buffer = buffer; words = ws } ∷ b.buffered)
@@ -137,7 +134,7 @@ module _ (began : List ℕ) (b : Book) (w : World) (fit : is_unfit w ≡ false)
         → told (effected (goes_to w f d time x)) ≡ record { says = answers (fate_of g b x); output = [] }
     unfolding into_fifo into_buffer into_nothing keep_rule
     goes_told (to_fifo fifo priority m) x =
-        ap (λ (slot : Slot). record { says = answers (slot_says fifo m slot); output = [] })
+        ap (λ (slot : Option ℕ). record { says = answers (slot_says fifo m slot); output = [] })
         (arrival_told (fifo_area g fifo) (fifo_ledger b fifo) (fifo_ring w.state fifo) mem (h.fifos fifo x.0)
         (overwrites g fifo))
     goes_told (to_buffer buffer i) x = refl

@@ -10,7 +10,7 @@ use lib.ListN.{length}
 use Rattle.words.specs.Bits.{is_set}
 use Rattle.words.specs.Choice.{pick}
 use Rattle.words.specs.Rules.{allowed}
-use Rattle.words.proofs.Bits.{bit_of_zero}
+use Rattle.words.proofs.BitLaws.{bit_of_zero}
 use Rattle.frame.specs.declared.Frame.{Frame}
 use Rattle.registers.specs.declared.Registers.{Registers}
 use Rattle.layout.specs.Legal.{Legal}

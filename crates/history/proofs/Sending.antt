@@ -1,5 +1,6 @@
 -- Calls 7 to 13: the book tells what they tell, and agrees after them.
 -- Assumes nothing.
+use Rattle.std.proofs.Common.{Option}
 use Prim.Native.Nat.{ℕ}
 use mathlib.Core.Path.{◌≡◌, refl, sym, ap, ◌∙◌, subst}
 use mathlib.Core.Bool.{Bool, true, false, not}
@@ -17,7 +18,6 @@ use Rattle.element.specs.declared.EventHeader.{EventHeader}
 use Rattle.element.specs.declared.TxHeader.{TxHeader}
 use Rattle.layout.specs.Legal.{Legal}
 use Rattle.places.specs.Areas.{area_range}
-use Rattle.places.specs.declared.Slot.{Slot}
 use Rattle.areas.specs.Areas.{event_area}
 use Rattle.shape.specs.Calls.{Says, refuses, answers, leaves, tells}
 use Rattle.shape.specs.Histories.{told, noted}
@@ -127,7 +127,7 @@ module _ (began : List ℕ) (b : Book) (w : World) (fit : is_unfit w ≡ false)
     event_held =
         let v = event_kept (after_send w buffer) q.header.marker (form_of g q passive) time in
         subst
-        (λ (slot : Slot).
+        (λ (slot : Option ℕ).
         RingAgrees (event_area g) (note_arrival (event_size g) b.events ws slot) v.state.events v.memory)
         (arrival_told (event_area g) b.events w.state.events mem h.events false)
         (arrival_agrees (event_area g) b.events w.state.events mem h.events false ws refl)

@@ -1,16 +1,12 @@
 -- The history's own book of an engine: kept from calls and answers, with the registers of the start, not from a world.
-use Rattle.std.specs.Prelude.{ℕ, Bool, false, List, [], ◌∷◌, eqb}
+use Rattle.std.specs.Prelude.{ℕ, Bool, false, List, [], ◌∷◌, eqb, Option, Some, None}
 use Rattle.words.specs.Choice.{pick}
 use Rattle.words.specs.Bits.{with_bit, without_bit}
 use Rattle.frame.specs.declared.Frame.{Frame}
-use Rattle.frame.specs.declared.Matched.{Matched}
-use Rattle.frame.specs.declared.Matched.TheVariants.{Filter}
 use Rattle.registers.specs.Fields.{fifo_size, event_size}
 use Rattle.registers.specs.declared.Registers.{Registers}
 use Rattle.element.specs.Elements.{rx_element}
 use Rattle.places.specs.declared.Area.{Area}
-use Rattle.places.specs.declared.Slot.{Slot}
-use Rattle.places.specs.declared.Slot.TheVariants.{At, Lost}
 use Rattle.areas.specs.Areas.{fifo_area, buffer_area, data_words}
 use Rattle.shape.specs.Calls.{Says}
 use Rattle.shape.specs.Histories.{noted}
@@ -96,22 +92,22 @@ with_buffers b newdata buffered = record {
 -- ---- what an answer adds
 
 -- the element of a received frame, in an area
-abbrev pub frame_in : Area → Frame → List ℕ → ℕ → Matched → List ℕ
+abbrev pub frame_in : Area → Frame → List ℕ → ℕ → Option ℕ → List ℕ
 frame_in a f d time m = rx_element (arrival f time m) d (data_words a)
 
 -- it came to a FIFO: it is held there, at a place, or lost
-abbrev pub note_fifo : Registers → Book → Frame → List ℕ → ℕ → ℕ → Matched → Slot → Book
+abbrev pub note_fifo : Registers → Book → Frame → List ℕ → ℕ → ℕ → Option ℕ → Option ℕ → Book
 note_fifo g b f d time fifo m slot =
     with_fifo_ledger b fifo
     (note_arrival (fifo_size g fifo) (fifo_ledger b fifo) (frame_in (fifo_area g fifo) f d time m) slot)
 
 -- or it is stored in an Rx buffer, or discarded
 abbrev pub note_fate : Registers → Book → Frame → List ℕ → ℕ → Fate → Book
-note_fate g b f d time (stored fifo place m) = note_fifo g b f d time fifo m (At place)
-note_fate g b f d time (lost_to fifo m) = note_fifo g b f d time fifo m Lost
+note_fate g b f d time (stored fifo place m) = note_fifo g b f d time fifo m (Some place)
+note_fate g b f d time (lost_to fifo m) = note_fifo g b f d time fifo m None
 note_fate g b f d time (stored_buffer buffer i) =
     with_buffers b (with_bit b.newdata buffer)
-    (record { buffer = buffer; words = frame_in (buffer_area g) f d time (Filter i) } ∷ b.buffered)
+    (record { buffer = buffer; words = frame_in (buffer_area g) f d time (Some i) } ∷ b.buffered)
 note_fate g b f d time (dropped why m) = b
 
 -- an accepted report: the request is sent; where it wants an event, one is due, of its form as sent with this report's

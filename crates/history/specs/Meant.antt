@@ -1,8 +1,7 @@
 -- The frames that the rules send to a FIFO or an Rx buffer: by the filters and the rule for no match, not by answers.
-use Rattle.std.specs.Prelude.{ℕ, List, [], ◌∷◌, ◌++◌, eqb}
+use Rattle.std.specs.Prelude.{ℕ, List, [], ◌∷◌, ◌++◌, eqb, Some}
 use Rattle.words.specs.Choice.{pick}
 use Rattle.frame.specs.declared.Frame.{Frame}
-use Rattle.frame.specs.declared.Matched.TheVariants.{Filter}
 use Rattle.registers.specs.declared.Registers.{Registers}
 use Rattle.filter.specs.Destination.{Goes, to_fifo, to_buffer, discarded, destination}
 use Rattle.areas.specs.Areas.{fifo_area, buffer_area}
@@ -30,7 +29,7 @@ to_this_fifo g fifo f d time (discarded why m) = []
 abbrev pub to_buffers : Registers → Brings InRxBuffer
 to_buffers g f d time (to_fifo k priority m) = []
 to_buffers g f d time (to_buffer buffer i) =
-    record { buffer = buffer; words = frame_in (buffer_area g) f d time (Filter i) } ∷ []
+    record { buffer = buffer; words = frame_in (buffer_area g) f d time (Some i) } ∷ []
 to_buffers g f d time (discarded why m) = []
 
 module _ {A : Type 0} (brings : Brings A) (g : Registers) (began : List ℕ) where

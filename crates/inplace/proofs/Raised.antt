@@ -2,7 +2,7 @@
 -- Assumes nothing.
 use mathlib.Core.Path.{refl}
 use native.Mathlib.Omega.{arith}
-use Rattle.words.proofs.Bits.{bit_lt, bit_of_zero, bit_of_or, cleared_bit}
+use Rattle.words.proofs.BitLaws.{bit_lt, bit_of_zero, bit_of_or, cleared_bit}
 use Rattle.engine.specs.Flags.{cleared, with_priority}
 use Rattle.engine.proofs.Fits.{cleared_fit}
 use Rattle.engine.proofs.Sounds.{sound_of, flags_of, fit_of}

@@ -7,17 +7,18 @@ ghost use Rattle.engine.specs.Flags.{cleared, with_priority};
 ghost use Rattle.inplace.specs.Raising.{raised_mask};
 ghost use Rattle.inplace.specs.Taking.{taken, without_flags};
 
-use engine::flags;
 use engine::state::Record;
-use words::bits32;
+use words::bits;
 
 // The flags of a mask are set; the priority stays.
+#[tactic(auto, unfolding(crate::specs::Raising::raised_mask))]
 pub fn raise_mask(r: Record, mask: u32) -> Record
     ensures { result ≡ raised_mask r mask }
 {
-    let mut n = r;
-    n.flags = bits32::set_mask(r.flags, mask);
-    n
+    Record {
+        flags: bits::set_mask(r.flags, mask),
+        ..r
+    }
 }
 
 // The same in place.
@@ -31,14 +32,14 @@ pub fn cuongphemi_flags_raise(recorded: &mut Record, mask: u32)
 pub fn cuongphemi_flags_clear(recorded: &mut Record, mask: u32)
     ensures { recorded.new ≡ cleared recorded.old mask }
 {
-    *recorded = flags::clear(*recorded, mask);
+    *recorded = recorded.clear(mask);
 }
 
 // The priority word is replaced in place; the flags stay.
 pub fn cuongphemi_priority_put(recorded: &mut Record, word: u32)
     ensures { recorded.new ≡ with_priority recorded.old word }
 {
-    *recorded = flags::set_priority(*recorded, word);
+    *recorded = recorded.set_priority(word);
 }
 
 // The flags that are up.
@@ -52,9 +53,7 @@ pub fn flags_up(r: Record) -> u32
 pub fn without_flags(r: Record) -> Record
     ensures { result ≡ without_flags r }
 {
-    let mut n = r;
-    n.flags = 0;
-    n
+    Record { flags: 0, ..r }
 }
 
 // Gives back the flags that were up, and clears them in place; the priority stays.
@@ -62,7 +61,7 @@ pub fn cuongphemi_flags_take(recorded: &mut Record) -> u32
     ensures { (result ≡ taken recorded.old)
         × (recorded.new ≡ without_flags recorded.old) }
 {
-    let r = *recorded;
-    *recorded = without_flags(r);
-    flags_up(r)
+    let up = flags_up(*recorded);
+    *recorded = without_flags(*recorded);
+    up
 }

@@ -17,30 +17,19 @@ use Rattle.words.proofs.Lowest.{least_below, least_absent}
 use Rattle.words.proofs.Rulings.{all_allowed, allowed_all, held_off, let_pass}
 use Rattle.words.proofs.Unnamed.{unnamed, agrees, below32}
 use Rattle.registers.specs.Kinds.{sidfc, xidfc, rxfc, rxbc, rxesc, txefc, txbc, txesc, gfc, xidam}
-use Rattle.shape.specs.Refusals.{names}
 use Rattle.registers.specs.Fields.{memory_words, dedicated, shared}
 use Rattle.registers.specs.Given.{all_named}
 use Rattle.registers.specs.declared.Registers.{Registers}
 use Rattle.layout.specs.Sections.{none, sections_of}
-use Rattle.layout.specs.Verdict.{plain, over, first_with, end, past, end_rule, shares, partner}
+use Rattle.layout.specs.Verdict.{plain, over, end, past, end_rule, shares, partner}
 use Rattle.layout.specs.Verdict.{has_partner, pair_rule, rules, verdict}
 use Rattle.layout.specs.Legal.{RightMemory, Named, WithinMost, Has, Legal}
 use Rattle.layout.specs.Promises.{AcceptedIsLegal, AllInside, AllApart}
 use Rattle.layout.specs.declared.sections.Section.{Section}
+use Rattle.layout.proofs.Searches.{none_with, with_none}
 use Rattle.layout.proofs.Counts.{none_over, all_within, counted_of, within_of}
 use Rattle.layout.proofs.Memory.{right_of, of_right}
 use Rattle.layout.proofs.Table.{Within, has_within, within_has, empty_or_some}
-
--- a search of the seven sections that refuses nothing has found no fault
-none_with : (n : ℕ) (fault : ℕ → Bool) → first_with n fault ≡ allowed → (i : ℕ) → i < 7 → fault i ≡ false
-none_with n fault e i h =
-    least_below fault 0 7 i (omega arith)
-    (omega (arith, ltb-false (least_from fault 0 7) 7 (held_off _ (names n (least_from fault 0 7) 7) e)))
-
-with_none : (n : ℕ) (fault : ℕ → Bool) → ((i : ℕ) → i < 7 → fault i ≡ false) → first_with n fault ≡ allowed
-with_none n fault h =
-    let_pass (names n (least_from fault 0 7) 7)
-    (le-ltb (least_from fault 0 7) 7 (omega (arith, least_absent fault 0 7 (λ j a b. h j (omega arith)))))
 
 -- 11
 words_of : (a b c d e f g h i j k : Bool) → (a && b && c && d && e && f && g && h && i && j && k) ≡ true
@@ -240,6 +229,9 @@ module _ (r : Registers) (words : ℕ) where
 
 pub accepted_is_legal : AcceptedIsLegal
 accepted_is_legal r words = (to_legal r words, from_legal r words)
+
+pub legal_buffers : (r : Registers) (words : ℕ) → allowed ≡ verdict r words → r.buffers ≤ 64
+legal_buffers r words e = (to_legal r words (sym e)).counted.buffers
 
 -- a legal section ends within the memory
 pub ends_inside : (r : Registers) (words : ℕ) → Legal r words → (i : ℕ) → i < 7

@@ -22,7 +22,7 @@ use Rattle.layout.specs.Verdict.{wrong_memory, rules, verdict}
 use Rattle.layout.specs.Legal.{Named, Has}
 use Rattle.layout.specs.Promises.{FirstTooMany, FirstPast, FirstPair, VerdictsAreExact}
 use Rattle.layout.specs.declared.sections.Section.{Section}
-use Rattle.layout.proofs.Says.{found_with}
+use Rattle.layout.proofs.Searches.{found_with}
 use Rattle.layout.proofs.Table.{Within, has_within, within_has}
 use Rattle.layout.proofs.Counts.{many_over, over_many, few_not_over, many_section}
 use Rattle.layout.proofs.Counts.{counted_of, within_of}

@@ -6,5 +6,4 @@ pub mod Memory
 pub mod Accepted
 pub mod Names
 pub mod Exact
-pub mod Judged
 pub mod OneAnswer

@@ -1,62 +1,62 @@
--- The verdict's searches, one turn at a time: the first section past the memory, the first pair that shares a word.
+-- The verdict's searches: the first of the seven sections with a fault, and the first pair that shares a word.
 -- Assumes nothing.
-use Prim.Native.Nat.{ℕ, ◌+◌, ◌-◌, ◌≤◌, ◌<◌, min, max}
+use Prim.Native.Nat.{ℕ, ◌+◌, ◌-◌, ◌≤◌, ◌<◌}
 use mathlib.Core.Path.{◌≡◌, refl, sym, ap, ◌∙◌}
 use mathlib.Core.Bool.{Bool, true, false}
 use mathlib.Core.List.{List}
-use borrow.Author.Tests.{lt-ltb, le-ltb}
+use borrow.Author.Tests.{ltb-false, lt-ltb, le-ltb}
 use lib.Dec.{ltb}
 use lib.ListN.{get_or}
 use native.Mathlib.Omega.{arith}
+use Rattle.std.specs.Prelude.{length, position, Some, None}
+use Rattle.std.specs.List.{position_or_len}
+use Rattle.std.proofs.lemmas.Grind.{common_steps}
+use Rattle.std.proofs.lemmas.List.Sums.{fails_before_first}
+use Rattle.std.proofs.lemmas.List.Quantifiers.{position-Some}
 use Rattle.words.specs.Least.{least_from}
-use Rattle.words.specs.Rules.{refused, refuse_if}
-use Rattle.words.proofs.Lowest.{look_found, look_on, look_done}
+use Rattle.words.specs.Rules.{allowed, refused, refuse_if}
+use Rattle.words.proofs.Lowest.{look_found, look_on, look_done, least_is, least_absent, least_below}
+use Rattle.words.proofs.Rulings.{turned_down, let_pass, held_off}
 use Rattle.shape.specs.Refusals.{names}
 use Rattle.layout.specs.Sections.{none}
-use Rattle.layout.specs.Verdict.{meaning, end, past, shares, partner, has_partner, pair_rule}
+use Rattle.layout.specs.Verdict.{first_with, shares, partner, has_partner, pair_rule}
 use Rattle.layout.specs.declared.sections.Section.{Section}
-use Rattle.layout.specs.declared.check.Verdict.{Verdict}
-use Rattle.layout.specs.declared.check.Verdict.TheVariants.{Accepted, Overlap}
 
--- two sections share no word where one is empty or ends before the other starts, and else they do
-module _ (a b : Section) where
-  apart : min (end a) (end b) ≤ max a.start.0 b.start.0 → false ≡ shares a b
-  apart h = sym (le-ltb _ _ h)
+-- the rule of a search of the seven sections: it names the first with a fault, and lets pass where there is none
+module _ (n : ℕ) (fault : ℕ → Bool) where
+  pub found_with : (i : ℕ) → i ≡ least_from fault 0 7 → i < 7 → first_with n fault ≡ refused (names n i 7)
+  found_with i e h =
+      turned_down (names n (least_from fault 0 7) 7) (lt-ltb (least_from fault 0 7) 7 (omega arith))
+      ∙ ap (λ (k : ℕ). refused (names n k 7)) (sym e)
 
-  pub first_empty : a.words ≡ 0 → false ≡ shares a b
-  first_empty e = apart (omega arith)
+  pub none_with : first_with n fault ≡ allowed → (i : ℕ) → i < 7 → fault i ≡ false
+  none_with e i h =
+      least_below fault 0 7 i (omega arith)
+      (omega (arith, ltb-false (least_from fault 0 7) 7 (held_off _ (names n (least_from fault 0 7) 7) e)))
 
-  pub second_empty : b.words ≡ 0 → false ≡ shares a b
-  second_empty e = apart (omega arith)
+  pub with_none : ((i : ℕ) → i < 7 → fault i ≡ false) → first_with n fault ≡ allowed
+  with_none h =
+      let_pass (names n (least_from fault 0 7) 7)
+      (le-ltb (least_from fault 0 7) 7 (omega (arith, least_absent fault 0 7 (λ j a b. h j (omega arith)))))
 
-  pub first_ends : (n : ℕ) → n ≡ end a → n ≤ b.start.0 → false ≡ shares a b
-  first_ends n e h = apart (omega arith)
+-- the same rule by the place of the first of seven that passes a test
+module _ {X : Type 0} (p : X → Bool) (d : X) (xs : List X) (size : length xs ≡ 7) (n : ℕ) where
+  pub first_at : (i : ℕ) → position p xs ≡ Some i → first_with n (λ k. p (get_or xs k d)) ≡ refused (names n i 7)
+  first_at i e =
+      let f = position-Some p xs i d e in
+      found_with n (λ k. p (get_or xs k d)) i
+      (sym
+      (least_is (λ k. p (get_or xs k d)) 0 7 i (omega arith) (omega (arith, f.0)) f.1 (λ j a h. f.2 j h)))
+      (omega (arith, f.0))
 
-  pub second_ends : (n : ℕ) → n ≡ end b → n ≤ a.start.0 → false ≡ shares a b
-  second_ends n e h = apart (omega arith)
-
-  pub overlap : (m n : ℕ) → m ≡ end a → n ≡ end b → (a.words ≡ 0 → ⊥) → b.start.0 < m → a.start.0 < n
-      → (b.words ≡ 0 → ⊥)
-      → true ≡ shares a b
-  overlap m n d e p g h q =
-      let both : max a.start.0 b.start.0 < min (end a) (end b) = omega arith in
-      sym (lt-ltb _ _ both)
+  pub first_none : position p xs ≡ None → first_with n (λ k. p (get_or xs k d)) ≡ allowed
+  first_none e =
+      let all : 7 ≤ position_or_len p xs = grind (arith, common_steps) in
+      with_none n (λ k. p (get_or xs k d)) (λ i h. fails_before_first p xs i d (omega arith))
 
 -- section j shares a word with section a
 abbrev pub shares_with : List Section → Section → ℕ → Bool
 shares_with s a j = shares a (get_or s j none)
-
-module _ (s : List Section) (words i e : ℕ) (q : e ≡ end (get_or s i none))
-    (left : least_from (past words s) 0 7 ≡ least_from (past words s) i (7 - i)) where
-  pub past_found : i < 7 → words < e → i ≡ least_from (past words s) 0 7
-  past_found h l =
-      look_found (past words s) (least_from (past words s) 0 7) i 7 left h
-      (lt-ltb words (end (get_or s i none)) (omega arith))
-
-  pub past_on : i < 7 → e ≤ words → least_from (past words s) 0 7 ≡ least_from (past words s) (i + 1) (7 - (i + 1))
-  past_on h l =
-      look_on (past words s) (least_from (past words s) 0 7) i 7 left h
-      (le-ltb words (end (get_or s i none)) (omega arith))
 
 module _ (s : List Section) (i : ℕ) where
   pub partner_from : partner s i ≡ least_from (shares_with s (get_or s i none)) (i + 1) (7 - (i + 1))
@@ -72,7 +72,7 @@ module _ (s : List Section) (i : ℕ) where
   module _ (left : least_from (has_partner s) 0 7 ≡ least_from (has_partner s) i (7 - i)) where
     pub pair_found : (j : ℕ) → i < 7 → j < 7 → partner s i ≡ least_from (shares_with s (get_or s i none)) j (7 - j)
         → (t : Bool) → t ≡ shares (get_or s i none) (get_or s j none) → t ≡ true
-        → meaning (Overlap i j) ≡ pair_rule s
+        → refused (names 15 i j) ≡ pair_rule s
     pair_found j h l p t f g =
         let q : j ≡ partner s i = look_found (shares_with s (get_or s i none)) (partner s i) j 7 p l (sym f ∙ g) in
         let w : i ≡ least_from (has_partner s) 0 7 =
@@ -88,10 +88,9 @@ module _ (s : List Section) (i : ℕ) where
         look_on (has_partner s) (least_from (has_partner s) 0 7) i 7 left h
         (le-ltb (partner s i) 7 (omega (arith, look_done (shares_with s (get_or s i none)) (partner s i) j 7 p k l)))
 
-    pub pair_none : (found : Verdict) → i ≤ 7 → 7 ≤ i → found ≡ Accepted → meaning found ≡ pair_rule s
-    pair_none found k h e =
-        ap meaning e
-        ∙ sym
+    pub pair_none : i ≤ 7 → 7 ≤ i → allowed ≡ pair_rule s
+    pair_none k h =
+        sym
         (ap
         (λ (t : Bool). refuse_if t (names 15 (least_from (has_partner s) 0 7) (partner s (least_from (has_partner s) 0 7))))
         (le-ltb (least_from (has_partner s) 0 7) 7

@@ -1,12 +1,12 @@
 -- What is promised of the verdict (demand 2, layouts): statements only.
-use Rattle.std.specs.Prelude.{ℕ, ◌+◌, ◌≤◌, ◌<◌, ◌≡◌, ◌↔◌, ◌⊎◌}
+use Rattle.std.specs.Prelude.{ℕ, ◌+◌, ◌≤◌, ◌<◌, ◌≡◌, ◌↔◌, ◌⊎◌, Result}
 use Rattle.words.specs.Rules.{allowed, refused}
 use Rattle.shape.specs.Refusals.{Refusal, names}
 use Rattle.registers.specs.Fields.{memory_words, dedicated, shared}
 use Rattle.registers.specs.declared.Registers.{Registers}
 use Rattle.layout.specs.Verdict.{meaning, verdict}
 use Rattle.layout.specs.Legal.{RightMemory, WrongMemory, Named, TooMany, WithinMost, Counted, Has, Legal}
-use Rattle.layout.specs.declared.check.Verdict.{Verdict}
+use Rattle.layout.specs.declared.check.LayoutRefusal.{LayoutRefusal}
 
 -- a start is accepted exactly where its layout is legal
 abbrev pub AcceptedIsLegal : Type 0
@@ -74,4 +74,4 @@ VerdictsAreExact =
 
 -- no two answers of the code mean the same, so no second answer meets the contract
 abbrev pub OneAnswer : Type 0
-OneAnswer = (a b : Verdict) → meaning a ≡ meaning b → a ≡ b
+OneAnswer = (a b : Result (Unit {0}) LayoutRefusal) → meaning a ≡ meaning b → a ≡ b

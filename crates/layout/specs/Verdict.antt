@@ -1,5 +1,5 @@
 -- Which layouts a start refuses: numbers 10 to 15, with the two sections that each names (7 for none).
-use Rattle.std.specs.Prelude.{ℕ, ◌+◌, ◌-◌, min, max, Bool, false, not, ◌||◌, List, [], ◌∷◌, eqb, ltb, get_or, replicate}
+use Rattle.std.specs.Prelude.{ℕ, ◌+◌, ◌-◌, min, max, Bool, false, not, ◌||◌, List, [], ◌∷◌, eqb, ltb, get_or, Result, Ok, Err}
 use Rattle.words.specs.Least.{least_from}
 use Rattle.words.specs.Rules.{Ruling, allowed, refused, refuse_if, first, settle}
 use Rattle.shape.specs.Refusals.{Refusal, names, Refusals}
@@ -9,23 +9,27 @@ use Rattle.registers.specs.declared.Registers.{Registers}
 use Rattle.layout.specs.Sections.{memory_most, none, over_most, sections_of}
 use Rattle.layout.specs.declared.sections.Section.{Section}
 use Rattle.layout.specs.declared.check.Naming.{Naming}
-use Rattle.layout.specs.declared.check.Verdict.{Verdict}
-use Rattle.layout.specs.declared.check.Verdict.TheVariants.{Accepted, WrongMemory, UnnamedBit, CountOver}
-use Rattle.layout.specs.declared.check.Verdict.TheVariants.{TxOver, PastMemory, Overlap}
+use Rattle.layout.specs.declared.check.LayoutRefusal.{LayoutRefusal}
+use Rattle.layout.specs.declared.check.LayoutRefusal.TheVariants.{WrongMemory, UnnamedBit, CountOver}
+use Rattle.layout.specs.declared.check.LayoutRefusal.TheVariants.{TxOver, PastMemory, Overlap}
 
 -- a refusal by its number alone: it names no section
 abbrev pub plain : ℕ → Refusal
 plain n = names n 7 7
 
--- what each answer of the code says in the paper's numbers
-abbrev pub meaning : Verdict → Ruling Refusal
-meaning Accepted = allowed
-meaning WrongMemory = refused (plain 10)
-meaning UnnamedBit = refused (plain 11)
-meaning (CountOver i) = refused (names 12 i 7)
-meaning TxOver = refused (plain 13)
-meaning (PastMemory i) = refused (names 14 i 7)
-meaning (Overlap i j) = refused (names 15 i j)
+-- what each refusal of the code says in the paper's numbers
+abbrev pub refusal_of : LayoutRefusal → Refusal
+refusal_of WrongMemory = plain 10
+refusal_of UnnamedBit = plain 11
+refusal_of (CountOver i) = names 12 i 7
+refusal_of TxOver = plain 13
+refusal_of (PastMemory i) = names 14 i 7
+refusal_of (Overlap i j) = names 15 i j
+
+-- what an answer of the code means: nothing against the layout, or refused
+abbrev pub meaning : {A : Type 0} → Result A LayoutRefusal → Ruling Refusal
+meaning (Ok a) = allowed
+meaning (Err e) = refused (refusal_of e)
 
 -- a verdict as numbers alone: an accepted start has 0 and names no section
 abbrev pub numbers : Ruling Refusal → Refusal
@@ -101,7 +105,3 @@ rules r words =
 -- the lowest number that applies
 unfoldable pub verdict : Registers → ℕ → Ruling Refusal
 verdict r words = first (rules r words)
-
--- the sections that a start reports: those of the registers where it accepts, and seven without words where it refuses
-abbrev pub reported : Ruling Refusal → Registers → List Section
-reported v r = settle v (sections_of r) (λ n. replicate 7 none)

@@ -1,12 +1,12 @@
 // The seven sections that the registers lay out in the memory.
 ghost use Rattle.std.specs.Prelude.{◌≡◌, ◌≤◌};
-ghost use Rattle.layout.specs.Sections.{none as no_section, section, over_most, sections_of};
+ghost use Rattle.layout.specs.Sections.{none, section, over_most, sections_of};
 ghost use Rattle.layout.specs.Sections.{filters11_section, filters29_section, fifo_section};
 ghost use Rattle.layout.specs.Sections.{buffer_section, event_section, tx_section};
 
 use frame::sizes::element_words;
 use registers::Registers;
-use registers::kinds::{Rxbc, Rxfc, Sidfc, Txbc, Txefc, Xidfc};
+use registers::kinds::{Rxbc, Rxfc, SectionRegister, Sidfc, Txbc, Txefc, Xidfc};
 use words::WordAddress;
 
 // A section as reported: its first word and how many it has. One of count 0 has none, and starts at 0.
@@ -16,12 +16,15 @@ pub struct Section {
     pub words: u32,
 }
 
-pub fn none() -> Section
-    ensures { result ≡ no_section }
-{
-    Section {
-        start: WordAddress(0),
-        words: 0,
+impl Default for Section {
+    // No words.
+    fn default() -> Section
+        ensures { result ≡ none }
+    {
+        Section {
+            start: WordAddress(0),
+            words: 0,
+        }
     }
 }
 
@@ -30,11 +33,12 @@ fn section_of(start: WordAddress, count: u32, each: u32) -> Section
     ensures { result ≡ section start.0 count each }
 {
     if count == 0 {
-        return none();
-    }
-    Section {
-        start,
-        words: count * each,
+        Section::default()
+    } else {
+        Section {
+            start,
+            words: count * each,
+        }
     }
 }
 
@@ -81,7 +85,6 @@ pub fn tx_buffers(r: Registers) -> Section
 pub fn over_most(r: Registers) -> [bool; 7]
     ensures { result ≡ over_most r }
 {
-    let tx = (Txbc::MOST < r.txbc.dedicated()) | (Txbc::MOST < r.txbc.shared());
     [
         Sidfc::MOST < r.sidfc.count(),
         Xidfc::MOST < r.xidfc.count(),
@@ -89,7 +92,7 @@ pub fn over_most(r: Registers) -> [bool; 7]
         Rxfc::MOST < r.fifo(1).count(),
         Rxbc::MOST < r.buffers,
         Txefc::MOST < r.txefc.count(),
-        tx,
+        (Txbc::MOST < r.txbc.dedicated()) | (Txbc::MOST < r.txbc.shared()),
     ]
 }
 
@@ -97,12 +100,13 @@ pub fn sections(r: Registers) -> [Section; 7]
     requires { r.buffers ≤ 64 }
     ensures { result ≡ sections_of r }
 {
-    let s0 = filters11(r);
-    let s1 = filters29(r);
-    let s2 = fifo(r, 0);
-    let s3 = fifo(r, 1);
-    let s4 = rx_buffers(r);
-    let s5 = events(r);
-    let s6 = tx_buffers(r);
-    [s0, s1, s2, s3, s4, s5, s6]
+    [
+        filters11(r),
+        filters29(r),
+        fifo(r, 0),
+        fifo(r, 1),
+        rx_buffers(r),
+        events(r),
+        tx_buffers(r),
+    ]
 }

@@ -3,18 +3,15 @@ use Rattle.std.specs.Prelude.{ℕ, [], ◌∷◌}
 use Rattle.std.specs.Int.Count.{ones}
 use Rattle.ring.specs.Rings.{put_place}
 use Rattle.ring.specs.declared.Ring.{Ring}
-use Rattle.shape.specs.Calls.{Says, refuses, answers, leaves, tells, call}
+use Rattle.shape.specs.Calls.{leaves, tells, call}
 use Rattle.shape.specs.Refusals.{Refusals}
 use Rattle.registers.specs.Fields.{fifo_size, event_size}
-use Rattle.engine.specs.Answers.{told}
 use Rattle.engine.specs.Calls.{World, with_recorded, Outcome, ◌when◌, is_unfit}
 use Rattle.engine.specs.Fitness.{shared_ring_size}
 use Rattle.engine.specs.Flags.{cleared}
 use Rattle.engine.specs.declared.state.State.{State}
 use Rattle.overview.specs.declared.Overview.{Overview}
 use Rattle.overview.specs.declared.RingStatus.{RingStatus}
-use Rattle.overview.specs.declared.StatusAnswer.{StatusAnswer}
-use Rattle.overview.specs.declared.StatusAnswer.TheVariants.{Told, Refused}
 
 -- what is against both
 unfoldable pub overview_refusals : World → Refusals
@@ -37,11 +34,6 @@ status_of s = record {
   shared = ring_status s.shared (shared_ring_size s.regs);
   pending = ones s.pending;
 }
-
--- what the code answers
-abbrev pub meaning : StatusAnswer → Says Overview
-meaning (Told t) = answers t
-meaning (Refused n) = refuses (told n)
 
 -- call 15
 abbrev pub report_status : World → Outcome Overview

@@ -2,14 +2,14 @@
 #![tactic(auto)]
 
 ghost use Rattle.std.specs.Prelude.{◌≡◌, ◌+◌, ◌≤◌};
-ghost use Rattle.ring.specs.Rings.{Fit};
 ghost use Rattle.places.specs.Areas.{place_in, HasPlace};
 ghost use Rattle.places.specs.Slots.{take_rule};
 
-use ring::Ring;
+use ring::{Circle, Ring};
 use words::WordAddress;
 
-// So many elements of so many words each, from a word of the memory on.
+// So many elements of so many words each, from a word of the memory on. That a place is in the memory is asked at each
+// use and is no invariant, which would be no plainer: the memory is lent apart, now as `&`, now as `&mut`.
 #[derive(Clone, Copy)]
 pub struct Area {
     pub start: WordAddress,
@@ -17,46 +17,42 @@ pub struct Area {
     pub each: u32,
 }
 
-// The first word of the element at a place.
-pub fn place_in(a: Area, place: u32, words: usize) -> WordAddress
-    requires { HasPlace a place words }
-    ensures { (result.0 ≡ place_in a place) × (result.0 + a.each ≤ words) }
-{
-    WordAddress(a.start.0 + place * a.each)
+impl Area {
+    // The first word of the element at a place.
+    pub fn place_in(self, place: u32, words: usize) -> WordAddress
+        requires { HasPlace self place words }
+        ensures { (result.0 ≡ place_in self place) × (result.0 + self.each ≤ words) }
+    {
+        WordAddress(self.start.0 + place * self.each)
+    }
 }
 
-// Where a new element goes, if anywhere.
-#[derive(Clone, Copy)]
-pub enum Slot {
-    At(u32),
-    Lost,
-}
-
+// The place that a new element goes to, if any, and the ring after it.
 #[derive(Clone, Copy)]
 pub struct Taken {
-    pub slot: Slot,
+    pub slot: Option<u32>,
     pub ring: Ring,
 }
 
-// What becomes of a new element in a ring of this size and mode.
-pub fn take(q: Ring, size: u32, overwrites: bool) -> Taken
-    requires { Fit q size }
-    ensures { result ≡ take_rule size overwrites q }
+// What becomes of a new element in a ring of this mode.
+#[tactic(auto, unfolding(crate::specs::Slots::take_rule))]
+pub fn take(q: Circle, overwrites: bool) -> Taken
+    ensures { result ≡ take_rule q.size overwrites q.ring }
 {
-    if q.fill < size {
+    if q.ring.fill < q.size {
         return Taken {
-            slot: Slot::At(ring::put_place(q, size)),
-            ring: ring::push(q, size),
+            slot: Some(q.put_place()),
+            ring: q.push(),
         };
     }
-    if (size == 0) | !overwrites {
+    if q.size == 0 || !overwrites {
         return Taken {
-            slot: Slot::Lost,
-            ring: q,
+            slot: None,
+            ring: q.ring,
         };
     }
     Taken {
-        slot: Slot::At(q.oldest),
-        ring: ring::overwrite(q, size),
+        slot: Some(q.ring.oldest),
+        ring: q.overwrite(),
     }
 }

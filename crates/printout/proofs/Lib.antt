@@ -1,7 +1,6 @@
-pub mod HexDigits
+pub mod Rows
 pub mod Lines
-pub mod Decimals
-pub mod Pushed
 pub mod Told
 pub mod Written
 pub mod Answers
+pub mod Short

@@ -1,18 +1,20 @@
 -- The reader reads exactly the texts of twelve words, and reads these words.
 -- Assumes nothing.
-use Prim.Native.Nat.{ℕ, zero, suc, ◌+◌, ◌-◌, ◌*◌, ◌/◌, ◌%◌, ◌^◌, ◌≤◌, ◌<◌}
+use Prim.Native.Nat.{ℕ, zero, suc, ◌+◌, ◌-◌, ◌*◌, ◌/◌, ◌%◌, ◌^◌, ◌<◌}
 use mathlib.Core.Path.{◌≡◌, refl, sym, ap, subst, ◌∙◌}
-use mathlib.Core.Bool.{Bool, true, false, not, ◌&&◌}
+use mathlib.Core.Bool.{Bool, true, false, cond, not}
 use mathlib.Core.List.{List}
 use mathlib.Core.Logic.{inl, inr}
-use borrow.Author.Tests.{eqb-true, eqb-false, eq-eqb, lt-ltb, le-ltb, leb-true, not-false}
+use borrow.Author.Tests.{eqb-true, eqb-false, eq-eqb, lt-ltb, le-ltb, ltb-true, ltb-false}
 use native.Mathlib.Nat.{zero-add}
 use native.Mathlib.Omega.{arith}
-use lib.Dec.{eqb, eqb→eq, ltb, leb}
+use lib.Dec.{eqb, eqb→eq, ltb}
 use lib.ListN.{get_or}
+use Rattle.std.specs.Prelude.{codes}
+use Rattle.std.specs.Char.{digit_value}
 use Rattle.words.specs.Choice.{pick}
-use Rattle.words.proofs.Choices.{pick_first, pick_second, and_both}
-use Rattle.words.proofs.Lowest.{least_below, least_absent}
+use Rattle.words.proofs.Choices.{pick_first, pick_second}
+use Rattle.words.proofs.Lowest.{least_absent}
 use Rattle.words.specs.Runs.{run}
 use Rattle.words.proofs.Runs.{get_or_run}
 use Rattle.words.proofs.Tables.{every, every_at}
@@ -21,30 +23,29 @@ use Rattle.shape.specs.Refusals.{Refusal}
 use Rattle.layout.specs.Sections.{sections_of}
 use Rattle.layout.specs.Verdict.{verdict}
 use Rattle.layout.specs.declared.sections.Section.{Section}
-use Rattle.printout.specs.Ascii.{ascii}
-use Rattle.printout.specs.Input.{within, digit_of, in_place, out_of_place, first_out, readable, number_from, number}
+use Rattle.printout.specs.Input.{in_place, out_of_place, first_out, readable, number_from, number}
 use Rattle.printout.specs.Input.{bench_words, registers_of}
 use Rattle.printout.specs.Lines.{Writes, Line, TwelveLines, twelve_registers}
 use Rattle.printout.specs.Printed.{unread, told, report, printed}
 use Rattle.printout.specs.Promises.{ReadsTheWords, UnreadIsExact}
 use Rattle.printout.proofs.Lines.{newline_there, digit_there, read_by, read_length, digit_small}
-use Rattle.printout.proofs.Lines.{number_none, number_more, below}
+use Rattle.printout.proofs.Lines.{number_none, number_more, below, in_its_place, same_registers}
 
 -- ---- a digit
 
 abbrev small : List ℕ
-small = ascii "0123456789abcdef"
+small = codes "0123456789abcdef"
 
 abbrev large : List ℕ
-large = ascii "0123456789ABCDEF"
+large = codes "0123456789ABCDEF"
 
 -- what a byte writes is what it is read as
-written_read : (b d : ℕ) → d < 16 → Writes b d → digit_of b ≡ d
-unfolding every digit_of
+written_read : (b d : ℕ) → d < 16 → Writes b d → digit_value b ≡ d
+unfolding every
 written_read b d h (inl e) =
-    ap digit_of e ∙ eqb→eq (digit_of (get_or small d 0)) d (every_at (λ i x. eqb (digit_of x) i) small tt d h)
+    ap digit_value e ∙ eqb→eq (digit_value (get_or small d 0)) d (every_at (λ i x. eqb (digit_value x) i) small tt d h)
 written_read b d h (inr e) =
-    ap digit_of e ∙ eqb→eq (digit_of (get_or large d 0)) d (every_at (λ i x. eqb (digit_of x) i) large tt d h)
+    ap digit_value e ∙ eqb→eq (digit_value (get_or large d 0)) d (every_at (λ i x. eqb (digit_value x) i) large tt d h)
 
 -- the bytes of the digits go up by one, but for a gap before the letters
 small_at : (d : ℕ) → d < 16 → get_or small d 0 ≡ pick (ltb d 10) (48 + d) (87 + d)
@@ -55,44 +56,39 @@ large_at : (d : ℕ) → d < 16 → get_or large d 0 ≡ pick (ltb d 10) (48 + d
 unfolding every
 large_at d h = eqb→eq _ _ (every_at (λ i x. eqb x (pick (ltb i 10) (48 + i) (55 + i))) large tt d h)
 
-bounds : (low high b : ℕ) → (leb low b && leb b high) ≡ true → (low ≤ b) × (b ≤ high)
-bounds low high b e =
-    let p = and_both (leb low b) (leb b high) e in (leb-true low b p.0, leb-true b high p.1)
-
 -- what is read as a digit writes that digit
-read_written : (b : ℕ) → digit_of b < 16 → Writes b (digit_of b)
-unfolding digit_of
-read_written b = go (within "0" "9" b) (within "a" "f" b) (within "A" "F" b) refl refl refl
+read_written : (b : ℕ) → digit_value b < 16 → Writes b (digit_value b)
+read_written b = go (ltb b 48) (ltb b 58) (ltb b 65) (ltb b 91) (ltb b 97) (ltb b 123) refl refl refl refl refl refl
   where
-    go : (x y z : Bool) → within "0" "9" b ≡ x → within "a" "f" b ≡ y → within "A" "F" b ≡ z
-        → pick x (b - 48) (pick y (b - 97 + 10) (pick z (b - 65 + 10) 16)) < 16
-        → Writes b (pick x (b - 48) (pick y (b - 97 + 10) (pick z (b - 65 + 10) 16)))
-    go true y z e f g h =
-        let p = bounds 48 57 b e in
+    go : (t u v w x y : Bool) → ltb b 48 ≡ t → ltb b 58 ≡ u → ltb b 65 ≡ v → ltb b 91 ≡ w → ltb b 97 ≡ x → ltb b 123 ≡ y
+        → let d = cond t 36 (cond u (b - 48) (cond v 36 (cond w (b - 55) (cond x 36 (cond y (b - 87) 36))))) in
+        d < 16 → Writes b d
+    go true u v w x y e f g h i j k = absurd (omega arith)
+    go false true v w x y e f g h i j k =
         let d = b - 48 in
-        let q : b ≡ 48 + d = omega (arith, p.0) in
-        inl (q ∙ sym (small_at d h ∙ pick_first (48 + d) (87 + d) (lt-ltb d 10 (omega (arith, p.1)))))
-    go false true z e f g h =
-        let p = bounds 97 102 b f in
-        let d = b - 97 + 10 in
-        let q : b ≡ 87 + d = omega (arith, p.0) in
-        inl (q ∙ sym (small_at d h ∙ pick_second (48 + d) (87 + d) (le-ltb d 10 (omega (arith, p.0)))))
-    go false false true e f g h =
-        let p = bounds 65 70 b g in
-        let d = b - 65 + 10 in
-        let q : b ≡ 55 + d = omega (arith, p.0) in
-        inr (q ∙ sym (large_at d h ∙ pick_second (48 + d) (55 + d) (le-ltb d 10 (omega (arith, p.0)))))
-    go false false false e f g h = absurd (omega arith)
+        let q : b ≡ 48 + d = omega (arith, ltb-false b 48 e) in
+        inl (q ∙ sym (small_at d k ∙ pick_first (48 + d) (87 + d) (lt-ltb d 10 (omega (arith, ltb-true b 58 f)))))
+    go false false true w x y e f g h i j k = absurd (omega arith)
+    go false false false true x y e f g h i j k =
+        let d = b - 55 in
+        let q : b ≡ 55 + d = omega (arith, ltb-false b 65 g) in
+        inr (q ∙ sym (large_at d k ∙ pick_second (48 + d) (55 + d) (le-ltb d 10 (omega (arith, ltb-false b 65 g)))))
+    go false false false false true y e f g h i j k = absurd (omega arith)
+    go false false false false false true e f g h i j k =
+        let d = b - 87 in
+        let q : b ≡ 87 + d = omega (arith, ltb-false b 97 i) in
+        inl (q ∙ sym (small_at d k ∙ pick_second (48 + d) (87 + d) (le-ltb d 10 (omega (arith, ltb-false b 97 i)))))
+    go false false false false false false e f g h i j k = absurd (omega arith)
 
 -- ---- a line
 
 -- the digits of a word make it, from the most significant on
 module _ (w : ℕ) (s : List ℕ) (at : ℕ) (l : Line w s at) where
-  step : (k n d m : ℕ) → n ≡ number_from s at k → digit_of (get_or s (at + k) 0) ≡ d → m ≡ n * 16 + d
+  step : (k n d m : ℕ) → n ≡ number_from s at k → digit_value (get_or s (at + k) 0) ≡ d → m ≡ n * 16 + d
       → m ≡ number_from s at (k + 1)
   step k n d m p q z = z ∙ number_more s at k n d p (sym q)
 
-  digit : (k : ℕ) → k < 8 → digit_of (get_or s (at + k) 0) ≡ w / 16 ^ (7 - k) % 16
+  digit : (k : ℕ) → k < 8 → digit_value (get_or s (at + k) 0) ≡ w / 16 ^ (7 - k) % 16
   digit k h = written_read (get_or s (at + k) 0) (w / 16 ^ (7 - k) % 16) (omega arith) (l.digits k h)
 
   line_number : number_from s at 8 ≡ w
@@ -116,11 +112,11 @@ module _ (s : List ℕ) (y : readable s ≡ true) (i : ℕ) (h : i < 12) where
   n k = number_from s at k
 
   d : ℕ → ℕ
-  d k = digit_of (get_or s (at + k) 0)
+  d k = digit_value (get_or s (at + k) 0)
 
   more : (k : ℕ) → n k * 16 + d k ≡ n (k + 1)
   unfolding n d
-  more k = number_more s at k (number_from s at k) (digit_of (get_or s (at + k) 0)) refl refl
+  more k = number_more s at k (number_from s at k) (digit_value (get_or s (at + k) 0)) refl refl
 
   less : (k : ℕ) → k < 8 → d k < 16
   unfolding d
@@ -158,20 +154,15 @@ module _ (s : List ℕ) (y : readable s ≡ true) (i : ℕ) (h : i < 12) where
   digit_is (suc (suc (suc (suc (suc (suc (suc zero))))))) m = omega (arith, more 7, less 7 m)
   digit_is (suc (suc (suc (suc (suc (suc (suc (suc k)))))))) m = absurd (omega arith)
 
-  in_its_place : (p : ℕ) → p < 108 → in_place (get_or s p 0) p ≡ true
-  in_its_place p m =
-      let e = eqb-true (first_out s) 108 (read_by s (read_length s y) ∙ y) in
-      not-false _ (least_below (out_of_place s) 0 108 p (omega arith) (omega arith))
-
   its_line : Line (number s i) s (9 * i)
   unfolding n d
   its_line = record {
-    word = below s y i h 8 (omega arith);
+    word = below s (9 * i) 8 (λ k m. digit_small s y i k h m);
     digits = λ k m. subst (Writes (get_or s (9 * i + k) 0)) (digit_is k m)
         (read_written (get_or s (9 * i + k) 0) (digit_small s y i k h m));
     newline =
         eqb-true (get_or s (9 * i + 8) 0) 10
-        (newline_there (get_or s (9 * i + 8) 0) (9 * i + 8) (omega arith) ∙ in_its_place (9 * i + 8) (omega arith));
+        (newline_there (get_or s (9 * i + 8) 0) (9 * i + 8) (omega arith) ∙ in_its_place s y (9 * i + 8) (omega arith));
   }
 
 -- ---- the input
@@ -190,10 +181,10 @@ module _ (ws s : List ℕ) (t : TwelveLines ws s) where
           let f = eqb-false (p % 9) 8 e in
           let q : p ≡ 9 * (p / 9) + p % 9 = omega arith in
           let l = t.line (p / 9) (omega arith) in
-          let g = ap (λ (x : ℕ). digit_of (get_or s x 0)) q
+          let g = ap (λ (x : ℕ). digit_value (get_or s x 0)) q
           ∙ digit (get_or ws (p / 9) 0) s (9 * (p / 9)) l (p % 9) (omega arith) in
-          sym (digit_there (get_or s p 0) p f (digit_of (get_or s p 0)) refl)
-          ∙ lt-ltb (digit_of (get_or s p 0)) 16 (omega (arith, g))
+          sym (digit_there (get_or s p 0) p f (digit_value (get_or s p 0)) refl)
+          ∙ lt-ltb (digit_value (get_or s p 0)) 16 (omega (arith, g))
 
   are_read : readable s ≡ true
   are_read =
@@ -204,23 +195,7 @@ module _ (ws s : List ℕ) (t : TwelveLines ws s) where
   on_line i h = line_number (get_or ws i 0) s (9 * i) (t.line i h)
 
   registers_are : registers_of s ≡ twelve_registers ws
-  registers_are = λ j. record {
-    sidfc = record { word = on_line 0 (omega arith) j };
-    xidfc = record { word = on_line 1 (omega arith) j };
-    rxf0c = record { word = on_line 2 (omega arith) j };
-    rxf1c = record { word = on_line 3 (omega arith) j };
-    rxbc = record { word = on_line 4 (omega arith) j };
-    rxesc = record { word = on_line 5 (omega arith) j };
-    txefc = record { word = on_line 6 (omega arith) j };
-    txbc = record { word = on_line 7 (omega arith) j };
-    txesc = record { word = on_line 8 (omega arith) j };
-    gfc = record { word = on_line 9 (omega arith) j };
-    xidam = record { word = on_line 10 (omega arith) j };
-    buffers = on_line 11 (omega arith) j;
-    fdon = false;
-    rateon = false;
-    memory = 2560;
-  }
+  registers_are = same_registers (number s) (λ i. get_or ws i 0) on_line
 
 pub reads_the_words : ReadsTheWords
 unfolding printed

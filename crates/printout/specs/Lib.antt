@@ -1,5 +1,3 @@
-pub mod Ascii
-pub mod Content
 pub mod Input
 pub mod Printed
 pub mod Lines

@@ -1,12 +1,11 @@
 -- The bench program's input, said from the words that it writes down: twelve lines of eight hex digits.
-use Rattle.std.specs.Prelude.{ℕ, ◌+◌, ◌-◌, ◌*◌, ◌/◌, ◌%◌, ◌^◌, ◌<◌, ◌≡◌, false, List, ◌⊎◌, length, get_or}
+use Rattle.std.specs.Prelude.{ℕ, ◌+◌, ◌-◌, ◌*◌, ◌/◌, ◌%◌, ◌^◌, ◌<◌, ◌≡◌, false, List, ◌⊎◌, length, get_or, codes}
 use Prim.Native.Char.{code}
 use Rattle.registers.specs.declared.Registers.{Registers}
-use Rattle.printout.specs.Ascii.{ascii}
 
 -- a byte writes hex digit d, in either case
 abbrev pub Writes : ℕ → ℕ → Type 0
-Writes b d = (b ≡ get_or (ascii "0123456789abcdef") d 0) ⊎ (b ≡ get_or (ascii "0123456789ABCDEF") d 0)
+Writes b d = (b ≡ get_or (codes "0123456789abcdef") d 0) ⊎ (b ≡ get_or (codes "0123456789ABCDEF") d 0)
 
 -- eight digits of a 32-bit word from place at on, the most significant first, and a newline
 pub record Line (w : ℕ) (s : List ℕ) (at : ℕ) : Type 0 where

@@ -2,62 +2,54 @@
 #![tactic(auto)]
 
 mod reading;
-mod text;
 
-ghost use Rattle.std.specs.Prelude.{◌≡◌, ◌≤◌};
-ghost use Rattle.layout.specs.Verdict.{meaning, as_refusal};
-ghost use Rattle.printout.specs.Content.{content};
-ghost use Rattle.printout.specs.Printed.{unread, ok, refusal, told, printed};
+ghost use Rattle.std.specs.Prelude.{◌≤◌, ◌≡◌, Some, length};
+ghost use Rattle.printout.specs.Printed.{content, printed};
 
-use crate::reading::{BENCH_WORDS, is_readable, registers};
-use layout::check::{Naming, Verdict, judge};
+use crate::reading::{BENCH_WORDS, registers};
+use layout::check::{LayoutRefusal, judge};
 use layout::sections::Section;
-pub use text::Text;
+use std::fmt;
 
-fn unread_text() -> Text
-    ensures { (content result ≡ unread) × (result.len ≤ 512) }
-{
-    Text::empty().push_all(b"layout unread\n")
+// What an input gives.
+#[derive(Clone, Copy)]
+pub enum Answer {
+    Unread,
+    Refused(LayoutRefusal),
+    Accepted([Section; 7]),
 }
 
-// `layout ok`, and a line for each section: its number, its first word and how many it has.
-fn ok_text(sections: [Section; 7]) -> Text
-    ensures { (content result ≡ ok sections) × (result.len ≤ 512) }
-{
-    let mut t = Text::empty().push_all(b"layout ok\n");
-    for i in 0..7 {
-        let s = sections[i];
-        t = t.push_row(i as u64, s.start.0 as u64, s.words as u64);
+// Of an accepted layout a line for each section: its number, its first word and how many it has.
+impl fmt::Display for Answer {
+    ghost output = { λ p. Some (content p) };
+
+    fn fmt<W: fmt::Write>(&self, f: &mut fmt::Formatter<W>) -> fmt::Result {
+        match self {
+            Answer::Unread => writeln!(f, "layout unread"),
+            Answer::Refused(refusal) => {
+                let n = refusal.naming();
+                writeln!(f, "layout refused {} {} {}", n.number, n.section, n.other)
+            }
+            Answer::Accepted(sections) => {
+                writeln!(f, "layout ok")?;
+                for (i, s) in sections.iter().enumerate() {
+                    writeln!(f, "{i} {} {}", s.start.0, s.words)?;
+                }
+                Ok(())
+            }
+        }
     }
-    t
 }
 
-fn refused_text(n: Naming) -> Text
-    ensures { (content result ≡ refusal (as_refusal n)) × (result.len ≤ 512) }
+pub fn printout(input: &[u8]) -> Answer
+    ensures bytes { content result ≡ printed input.now }
+    ensures most { length (content result) ≤ 512 }
 {
-    Text::empty()
-        .push_all(b"layout refused ")
-        .push_row(n.number as u64, n.section as u64, n.other as u64)
-}
-
-// A verdict, with the sections where it accepts.
-fn verdict_text(v: Verdict, sections: [Section; 7]) -> Text
-    ensures { (content result ≡ told (meaning v) sections) × (result.len ≤ 512) }
-{
-    if v.accepted() {
-        return ok_text(sections);
+    let Some(regs) = registers(input) else {
+        return Answer::Unread;
+    };
+    match judge(regs, BENCH_WORDS as usize) {
+        Ok(sections) => Answer::Accepted(sections),
+        Err(refusal) => Answer::Refused(refusal),
     }
-    refused_text(v.naming())
-}
-
-pub fn printout(input: &[u8]) -> Text
-    ensures { (content result ≡ printed input.now) × (result.len ≤ 512) }
-{
-    if !is_readable(input) {
-        return unread_text();
-    }
-    let report = judge(registers(input), BENCH_WORDS as usize);
-    let verdict = report.verdict;
-    let sections = report.sections;
-    verdict_text(verdict, sections)
 }

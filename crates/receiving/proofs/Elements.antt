@@ -1,5 +1,6 @@
 -- The element that a receive stores: its words stand where the answer says, and all others are as they were.
 -- Assumes nothing.
+use Rattle.std.proofs.Common.{Option, Some, None}
 use Prim.Native.Nat.{ℕ, zero, suc, ◌+◌, ◌≤◌, ◌<◌}
 use mathlib.Core.Path.{◌≡◌, refl}
 use mathlib.Core.List.{List}
@@ -13,11 +14,8 @@ use Rattle.shape.specs.Calls.{answers}
 use Rattle.places.specs.Areas.{place_in, place_range, words_at, Roomy}
 use Rattle.places.specs.Slots.{slot_memory}
 use Rattle.places.specs.declared.Area.{Area}
-use Rattle.places.specs.declared.Slot.{Slot}
-use Rattle.places.specs.declared.Slot.TheVariants.{At, Lost}
 use Rattle.places.proofs.Stores.{element_inside, store_there, store_own}
 use Rattle.frame.specs.declared.Frame.{Frame}
-use Rattle.frame.specs.declared.Matched.{Matched}
 use Rattle.registers.specs.Fields.{fifo_size}
 use Rattle.registers.specs.declared.Registers.{Registers}
 use Rattle.layout.specs.Legal.{Has}
@@ -94,7 +92,7 @@ module _ (w : World) (f : Frame) (d : List ℕ) (time : ℕ) (passed : ReceiveOp
   g = w.state.regs
 
   within : (k : ℕ) → k ≤ 1 → (p : ℕ)
-      → (keep_rule (keeper_of g k) (fifo_ring w.state k) w.recorded).slot ≡ At p → p < fifo_size g k
+      → (keep_rule (keeper_of g k) (fifo_ring w.state k) w.recorded).slot ≡ Some p → p < fifo_size g k
   within k l = slot_within w.state (length w.memory) k w.recorded passed.sound l
 
   fifo_room : (k : ℕ) → Roomy (fifo_area g k) (length w.memory)
@@ -111,22 +109,22 @@ module _ (w : World) (f : Frame) (d : List ℕ) (time : ℕ) (passed : ReceiveOp
   One e = OneElement g (stored_in g e.answer) w.memory e.world.memory
 
   -- in a slot of FIFO 0 or 1
-  module _ (k : ℕ) (m : Matched) where
-    abbrev after_slot : Slot → List ℕ
+  module _ (k : ℕ) (m : Option ℕ) where
+    abbrev after_slot : Option ℕ → List ℕ
     after_slot x = slot_memory w.memory (fifo_area g k) (rx_element (arrival f time m) d (data_words (fifo_area g k))) x
 
-    slot_there : (x : Slot) → ((p : ℕ) → x ≡ At p → p < fifo_size g k)
+    slot_there : (x : Option ℕ) → ((p : ℕ) → x ≡ Some p → p < fifo_size g k)
         → HoldsFrame g f d time (after_slot x) (answers (slot_says k m x))
-    slot_there (At p) h = arrival_there w.memory (fifo_area g k) (fifo_room k) p (h p refl) (arrival f time m) d
-    slot_there Lost h = tt
+    slot_there (Some p) h = arrival_there w.memory (fifo_area g k) (fifo_room k) p (h p refl) (arrival f time m) d
+    slot_there None h = tt
 
-    slot_one : k ≤ 1 → (x : Slot) → ((p : ℕ) → x ≡ At p → p < fifo_size g k)
+    slot_one : k ≤ 1 → (x : Option ℕ) → ((p : ℕ) → x ≡ Some p → p < fifo_size g k)
         → OneElement g (stored_in g (slot_says k m x)) w.memory (after_slot x)
-    slot_one l (At p) h = record {
+    slot_one l (Some p) h = record {
       only = arrival_only w.memory (fifo_area g k) (fifo_room k) p (h p refl) (arrival f time m) d;
       own = λ n x. (2 + k, omega arith, omega arith, fifo_has g k p n l (h p refl) x);
     }
-    slot_one l Lost h = none_written g w.memory
+    slot_one l None h = none_written g w.memory
 
   effect_there : There (receives w f d time)
   unfolding into_fifo into_buffer into_nothing

@@ -1,8 +1,8 @@
--- The cases of what is judged of a frame, one law each, and what is known where nothing is against it.
+-- What is known of a frame where nothing is against it.
 -- Assumes nothing.
 use Prim.Native.Nat.{ℕ}
-use mathlib.Core.Path.{◌≡◌, sym, ap, ◌∙◌}
-use mathlib.Core.Bool.{Bool, true, false, not, ◌&&◌}
+use mathlib.Core.Path.{◌≡◌, sym}
+use mathlib.Core.Bool.{false, not, ◌&&◌}
 use mathlib.Core.List.{List}
 use lib.ListN.{length}
 use Rattle.words.specs.Rules.{allowed, first}
@@ -11,44 +11,13 @@ use Rattle.layout.specs.Verdict.{plain}
 use Rattle.frame.specs.Malformed.{malformed}
 use Rattle.frame.specs.declared.Frame.{Frame}
 use Rattle.element.proofs.Fitness.{frame_fits}
-use Rattle.engine.specs.Answers.{ruled}
 use Rattle.engine.specs.Calls.{World, world, is_unfit}
-use Rattle.engine.specs.Fitness.{unfit, Sound}
-use Rattle.engine.specs.declared.refusals.Judged.{Judged}
-use Rattle.engine.specs.declared.refusals.Judged.TheVariants.{Allowed, Refused}
-use Rattle.engine.specs.declared.refusals.Refusal.TheVariants.{Unfit, Malformed, FdOff}
+use Rattle.engine.specs.Fitness.{Sound}
 use Rattle.engine.specs.declared.state.State.{State}
 use Rattle.engine.specs.declared.state.Record.{Record}
 use Rattle.engine.proofs.Sounds.{sound_of}
 use Rattle.receiving.specs.Needs.{Ready}
 use Rattle.receiving.specs.Receive.{receive_refusals}
-
--- ---- what the code finds
-
-module _ (s : State) (r : Record) (mem : List ℕ) (f : Frame) (len : ℕ) (b : Bool) (e : b ≡ unfit s r (length mem)) where
-  abbrev Finds : Judged → Type 0
-  Finds j = ruled j ≡ first (receive_refusals (world s r mem) f len)
-
-  pub frame_unfit : b ≡ true → Finds (Refused Unfit)
-  unfolding receive_refusals
-  frame_unfit y = simp (← e, y)
-
-  module _ (z : b ≡ false) (c : Bool) (d : c ≡ malformed f len) where
-    pub frame_malformed : c ≡ true → Finds (Refused Malformed)
-    unfolding receive_refusals
-    frame_malformed y = simp (← e, z, ← d, y)
-
-    pub frame_fd_off : c ≡ false → (f.fdf && not s.regs.fdon) ≡ true → Finds (Refused FdOff)
-    unfolding receive_refusals
-    frame_fd_off n y = simp (← e, z, ← d, n, y)
-
-    pub frame_allowed : c ≡ false → (f.fdf && not s.regs.fdon) ≡ false → Finds Allowed
-    unfolding receive_refusals
-    frame_allowed n y = simp (← e, z, ← d, n, y)
-
-pub ruleset frames = (frame_unfit, frame_malformed, frame_fd_off, frame_allowed)
-
--- ---- what is known where nothing is against it
 
 pub record ReceiveOpen (w : World) (f : Frame) (bytes : ℕ) : Type 0 where
   pub fit : is_unfit w ≡ false
@@ -69,9 +38,9 @@ receive_open w f bytes e =
       sound = sound_of w.state w.recorded (length w.memory) p.0;
     }
 
--- the same, of what was judged
-pub receive_ready : (s : State) (r : Record) (mem : List ℕ) (f : Frame) (len : ℕ) (j : Judged)
-    → ruled j ≡ first (receive_refusals (world s r mem) f len) → j ≡ Allowed → Ready s f (length mem)
-receive_ready s r mem f len j e y =
-    let o = receive_open (world s r mem) f len (sym e ∙ ap ruled y) in
+-- the same, where nothing was found
+pub receive_ready : (s : State) (r : Record) (mem : List ℕ) (f : Frame) (len : ℕ)
+    → allowed ≡ first (receive_refusals (world s r mem) f len) → Ready s f (length mem)
+receive_ready s r mem f len e =
+    let o = receive_open (world s r mem) f len (sym e) in
     record { sound = o.sound; fields = frame_fits f len o.formed }

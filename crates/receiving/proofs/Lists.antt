@@ -1,10 +1,9 @@
 -- The filter lists of a legal layout lie in the memory, and the index of a match is small.
 -- Assumes nothing.
+use Rattle.std.proofs.Common.{Option, Some, None}
 use Prim.Native.Nat.{ℕ, zero, suc, ◌+◌, ◌-◌, ◌*◌, ◌≤◌, ◌<◌}
 use mathlib.Core.Path.{refl}
 use native.Mathlib.Omega.{arith}
-use Rattle.frame.specs.declared.Matched.{Matched}
-use Rattle.frame.specs.declared.Matched.TheVariants.{Nothing, Filter}
 use Rattle.registers.specs.Fields.{filters11, filters11_start, filters29, filters29_start}
 use Rattle.registers.specs.declared.Registers.{Registers}
 use Rattle.layout.specs.Legal.{Legal}
@@ -26,6 +25,6 @@ legal_lists g words h =
     (room (filters29_start g) (2 * filters29 g) words (λ some. (legal_lies_inside g words h).list29 (omega arith)))
     h.counted.filters29
 
-pub index_small : (m : Matched) → IndexBelow 128 m → index_of m < 128
-index_small Nothing g = omega arith
-index_small (Filter i) g = g i refl
+pub index_small : (m : Option ℕ) → IndexBelow 128 m → index_of m < 128
+index_small None g = omega arith
+index_small (Some i) g = g i refl

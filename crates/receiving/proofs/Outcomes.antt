@@ -1,5 +1,6 @@
 -- Every way that a receive can go: what is shown of each is shown of the effect, and of the call.
 -- Assumes nothing.
+use Rattle.std.proofs.Common.{Option, Some}
 use Prim.Native.Nat.{ℕ, ◌≤◌, ◌<◌}
 use mathlib.Core.Path.{◌≡◌}
 use mathlib.Core.Bool.{Bool}
@@ -10,8 +11,6 @@ use Rattle.shape.specs.Calls.{refuses, outcome, effected}
 use Rattle.shape.specs.Refusals.{Refusal}
 use Rattle.shape.proofs.Calls.{call_cases}
 use Rattle.frame.specs.declared.Frame.{Frame}
-use Rattle.frame.specs.declared.Matched.{Matched}
-use Rattle.frame.specs.declared.Matched.TheVariants.{Filter}
 use Rattle.element.specs.Fitting.{index_of}
 use Rattle.filter.specs.Destination.{Goes, to_fifo, to_buffer, discarded, destination}
 use Rattle.filter.specs.Promises.{Within}
@@ -31,11 +30,11 @@ goes_within w f bytes o =
 
 module _ (w : World) (f : Frame) (d : List ℕ) (time : ℕ) where
   module _ (passed : ReceiveOpen w f (length d)) (P : Effect Fate → Type 0)
-      (fifo : (k : ℕ) (priority : Bool) (m : Matched) → k ≤ 1 → index_of m < 128
+      (fifo : (k : ℕ) (priority : Bool) (m : Option ℕ) → k ≤ 1 → index_of m < 128
       → P (into_fifo w k priority (arrival f time m) d))
       (buffer : (b i : ℕ) → b < w.state.regs.buffers → bit w.state.newdata b ≡ 0 → i < 128
-      → P (into_buffer w b (arrival f time (Filter i)) d))
-      (nowhere : (why : ℕ) (m : Matched) → index_of m < 128 → P (into_nothing w why (arrival f time m))) where
+      → P (into_buffer w b (arrival f time (Some i)) d))
+      (nowhere : (why : ℕ) (m : Option ℕ) → index_of m < 128 → P (into_nothing w why (arrival f time m))) where
     going : (g : Goes) → Within w.state.regs w.state.newdata g → P (goes_to w f d time g)
     going (to_fifo k priority m) x = fifo k priority m x.0 (index_small m x.1)
     going (to_buffer b i) x = buffer b i x.0 x.1 x.2

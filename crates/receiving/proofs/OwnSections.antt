@@ -1,5 +1,6 @@
 -- A receive looks at the words of sections 0 to 4 alone, and changes alike what is alike in them.
 -- Assumes nothing.
+use Rattle.std.proofs.Common.{Option, Some, None}
 use Prim.Native.Nat.{ℕ, ◌≤◌, ◌<◌}
 use mathlib.Core.Path.{◌≡◌, refl, ap, subst}
 use mathlib.Core.Bool.{Bool, true, false, not, ◌&&◌}
@@ -14,8 +15,6 @@ use Rattle.shape.specs.Refusals.{Refusals}
 use Rattle.places.specs.Areas.{place_in, Roomy}
 use Rattle.places.specs.Slots.{slot_memory}
 use Rattle.places.specs.declared.Area.{Area}
-use Rattle.places.specs.declared.Slot.{Slot}
-use Rattle.places.specs.declared.Slot.TheVariants.{At, Lost}
 use Rattle.places.proofs.Stores.{element_inside}
 use Rattle.frame.specs.Malformed.{malformed}
 use Rattle.frame.specs.declared.Frame.{Frame}
@@ -75,10 +74,10 @@ module _ (w : World) (other : List ℕ) (f : Frame) (d : List ℕ) (time : ℕ)
       (omega (arith, arrival_length a d area room.header, element_inside area place l, room.room))
 
   slot_alike : (area : Area) (a : Arrival) → Roomy area (length w.memory)
-      → (x : Slot) → ((p : ℕ) → x ≡ At p → p < area.count)
+      → (x : Option ℕ) → ((p : ℕ) → x ≡ Some p → p < area.count)
       → let ws = rx_element a d (data_words area) in Same (slot_memory w.memory area ws x) (slot_memory other area ws x)
-  slot_alike area a room (At p) h = arrival_alike area p a room (h p refl)
-  slot_alike area a room Lost h = same
+  slot_alike area a room (Some p) h = arrival_alike area p a room (h p refl)
+  slot_alike area a room None h = same
 
   module _ (passed : ReceiveOpen w f (length d)) where
     goes_alike : (x : Goes) → Within g w.state.newdata x

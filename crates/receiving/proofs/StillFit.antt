@@ -9,7 +9,7 @@ use lib.Dec.{eqb}
 use lib.ListN.{length}
 use Rattle.words.specs.Bits.{with_bit}
 use Rattle.words.specs.Rules.{allowed, first}
-use Rattle.words.proofs.Bits.{set_lt}
+use Rattle.words.proofs.BitLaws.{set_lt}
 use Rattle.frame.specs.declared.Frame.{Frame}
 use Rattle.element.specs.declared.Arrival.{Arrival}
 use Rattle.engine.specs.Calls.{World, Effect, is_unfit}

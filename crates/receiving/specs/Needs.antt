@@ -1,10 +1,8 @@
 -- What helpers ask of their callers. A reader of the promises need not read it.
-use Rattle.std.specs.Prelude.{ℕ, ◌≤◌, ◌<◌, ◌≡◌}
+use Rattle.std.specs.Prelude.{ℕ, ◌≤◌, ◌<◌, ◌≡◌, Option, Some}
 use Rattle.ring.specs.Rings.{Fit}
 use Rattle.places.specs.Areas.{Roomy, HasPlace}
 use Rattle.places.specs.declared.Area.{Area}
-use Rattle.places.specs.declared.Slot.{Slot}
-use Rattle.places.specs.declared.Slot.TheVariants.{At}
 use Rattle.frame.specs.declared.Frame.{Frame}
 use Rattle.registers.specs.Fields.{fifo_size}
 use Rattle.element.specs.Fitting.{index_of, InFields}
@@ -23,9 +21,9 @@ pub record CanStore (area : Area) (place : ℕ) (a : Arrival) (words : ℕ) : Ty
   pub fields : RxInFields a
 
 -- the same of a slot, if it has a place
-pub record CanPut (area : Area) (slot : Slot) (a : Arrival) (words : ℕ) : Type 0 where
+pub record CanPut (area : Area) (slot : Option ℕ) (a : Arrival) (words : ℕ) : Type 0 where
   pub room : Roomy area words
-  pub within : (p : ℕ) → slot ≡ At p → p < area.count
+  pub within : (p : ℕ) → slot ≡ Some p → p < area.count
   pub fields : RxInFields a
 
 -- FIFO 0 or 1, whose ring fits its size
@@ -41,7 +39,7 @@ pub record Notable (a : Arrival) (outcome place : ℕ) : Type 0 where
   pub element : place < 64
 
 -- of an arrival that went to a slot of FIFO 0 or 1
-pub record SlotNotable (a : Arrival) (fifo : ℕ) (slot : Slot) : Type 0 where
+pub record SlotNotable (a : Arrival) (fifo : ℕ) (slot : Option ℕ) : Type 0 where
   pub index : index_of a.matched < 128
   pub number : fifo ≤ 1
   pub element : slot_place slot < 64

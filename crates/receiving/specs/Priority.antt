@@ -1,8 +1,6 @@
 -- What a match for priority leaves in the record: flag 8, and the priority word.
-use Rattle.std.specs.Prelude.{ℕ, ◌+◌, Bool, eqb}
+use Rattle.std.specs.Prelude.{ℕ, ◌+◌, Bool, eqb, Option, Some, None}
 use Rattle.words.specs.Choice.{pick}
-use Rattle.places.specs.declared.Slot.{Slot}
-use Rattle.places.specs.declared.Slot.TheVariants.{At, Lost}
 use Rattle.element.specs.Fitting.{index_of}
 use Rattle.element.specs.declared.Arrival.{Arrival}
 use Rattle.filter.specs.Destination.{reason}
@@ -16,16 +14,16 @@ prioritised r a outcome place =
     with_priority (raised r 8) (priority_word a.frame.xtd (index_of a.matched) outcome place)
 
 -- outcome and place by what became of the frame in FIFO 0 or 1: 2 and 3 stored, 1 lost
-abbrev pub slot_outcome : ℕ → Slot → ℕ
-slot_outcome fifo (At p) = 2 + fifo
-slot_outcome fifo Lost = 1
+abbrev pub slot_outcome : ℕ → Option ℕ → ℕ
+slot_outcome fifo (Some p) = 2 + fifo
+slot_outcome fifo None = 1
 
-abbrev pub slot_place : Slot → ℕ
-slot_place (At p) = p
-slot_place Lost = 0
+abbrev pub slot_place : Option ℕ → ℕ
+slot_place (Some p) = p
+slot_place None = 0
 
 -- after a FIFO, for a frame with priority or without
-abbrev pub slot_noted : Record → Bool → Arrival → ℕ → Slot → Record
+abbrev pub slot_noted : Record → Bool → Arrival → ℕ → Option ℕ → Record
 slot_noted r priority a fifo slot = pick priority (prioritised r a (slot_outcome fifo slot) (slot_place slot)) r
 
 -- after a discard: outcome 0, of a match for priority only

@@ -1,10 +1,9 @@
 -- What is promised of a receive: statements only.
-use Rattle.std.specs.Prelude.{ℕ, ◌≤◌, ◌≡◌, List}
+use Rattle.std.specs.Prelude.{ℕ, ◌≤◌, ◌≡◌, List, Some}
 use Rattle.words.specs.Ranges.{Range, front, Inside, OnlyIn}
 use Rattle.shape.specs.Calls.{Says, refuses, answers}
 use Rattle.places.specs.Areas.{place_range, words_at}
 use Rattle.frame.specs.declared.Frame.{Frame}
-use Rattle.frame.specs.declared.Matched.TheVariants.{Filter}
 use Rattle.registers.specs.declared.Registers.{Registers}
 use Rattle.layout.specs.Legal.{Has}
 use Rattle.element.specs.Elements.{rx_element}
@@ -45,7 +44,7 @@ abbrev pub HoldsFrame : Registers → Frame → List ℕ → ℕ → List ℕ �
 HoldsFrame g f d time mem (answers (stored fifo place m)) =
     let a = fifo_area g fifo in words_at a place mem ≡ rx_element (arrival f time m) d (data_words a)
 HoldsFrame g f d time mem (answers (stored_buffer buffer i)) =
-    let a = buffer_area g in words_at a buffer mem ≡ rx_element (arrival f time (Filter i)) d (data_words a)
+    let a = buffer_area g in words_at a buffer mem ≡ rx_element (arrival f time (Some i)) d (data_words a)
 HoldsFrame g f d time mem (answers (lost_to fifo m)) = Unit {0}
 HoldsFrame g f d time mem (answers (dropped why m)) = Unit {0}
 HoldsFrame g f d time mem (refuses n) = Unit {0}

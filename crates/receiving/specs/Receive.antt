@@ -1,52 +1,46 @@
 -- Call 2, receive.
-use Rattle.std.specs.Prelude.{ℕ, Bool, not, ◌&&◌, List, [], ◌∷◌, length}
+use Rattle.std.specs.Prelude.{ℕ, Option, Some, None, Bool, not, ◌&&◌, List, [], ◌∷◌, length}
 use Rattle.words.specs.Bits.{with_bit}
 use Rattle.words.specs.Runs.{splice}
-use Rattle.shape.specs.Calls.{Says, refuses, answers, tells, call}
+use Rattle.shape.specs.Calls.{tells, call}
 use Rattle.shape.specs.Refusals.{Refusals}
 use Rattle.places.specs.Areas.{place_in}
 use Rattle.places.specs.Slots.{slot_memory}
-use Rattle.places.specs.declared.Slot.{Slot}
-use Rattle.places.specs.declared.Slot.TheVariants.{At, Lost}
 use Rattle.frame.specs.Malformed.{malformed}
 use Rattle.frame.specs.declared.Frame.{Frame}
-use Rattle.frame.specs.declared.Matched.{Matched}
-use Rattle.frame.specs.declared.Matched.TheVariants.{Filter}
 use Rattle.element.specs.Elements.{rx_element}
 use Rattle.element.specs.Fitting.{index_of}
 use Rattle.element.specs.declared.Arrival.{Arrival}
 use Rattle.filter.specs.Destination.{Goes, to_fifo, to_buffer, discarded, reason, destination}
 use Rattle.areas.specs.Areas.{fifo_area, buffer_area, data_words}
-use Rattle.engine.specs.Answers.{told}
 use Rattle.engine.specs.Calls.{World, world, with_recorded, Outcome, Effect, ◌when◌, is_unfit}
 use Rattle.engine.specs.Flags.{raised}
 use Rattle.engine.specs.Keeping.{keep_rule}
 use Rattle.engine.specs.States.{fifo_ring, with_fifo, with_new_data}
 use Rattle.receiving.specs.Fifos.{keeper_of}
 use Rattle.receiving.specs.Priority.{slot_noted, drop_noted}
-use Rattle.receiving.specs.declared.receive.Received
 use Rattle.receiving.specs.declared.receive.Received.{Received}
+use Rattle.receiving.specs.declared.receive.Received.TheVariants.{Stored, StoredBuffer, Lost, Discarded}
 
 -- ---- what it tells
 
 -- what became of a frame, with the filter element that matched it, if one did
 pub data Fate : Type 0 where
   -- in a FIFO, at a place
-  stored : ℕ → ℕ → Matched → Fate
+  stored : ℕ → ℕ → Option ℕ → Fate
   -- in an Rx buffer, by the element of this index
   stored_buffer : ℕ → ℕ → Fate
   -- to a FIFO
-  lost_to : ℕ → Matched → Fate
+  lost_to : ℕ → Option ℕ → Fate
   -- the reason's number
-  dropped : ℕ → Matched → Fate
+  dropped : ℕ → Option ℕ → Fate
 
 -- what the code answers
-abbrev pub meaning : Received → Says Fate
-meaning (Received.TheVariants.Stored fifo place m) = answers (stored fifo place m)
-meaning (Received.TheVariants.StoredBuffer buffer i) = answers (stored_buffer buffer i)
-meaning (Received.TheVariants.Lost fifo m) = answers (lost_to fifo m)
-meaning (Received.TheVariants.Discarded why m) = answers (dropped (reason why) m)
-meaning (Received.TheVariants.Refused n) = refuses (told n)
+abbrev pub fate_of : Received → Fate
+fate_of (Stored fifo place m) = stored fifo place m
+fate_of (StoredBuffer buffer i) = stored_buffer buffer i
+fate_of (Lost fifo m) = lost_to fifo m
+fate_of (Discarded why m) = dropped (reason why) m
 
 -- ---- what is against it
 
@@ -56,13 +50,13 @@ receive_refusals w f bytes =
 
 -- ---- what it does, by where the frame goes
 
-abbrev pub arrival : Frame → ℕ → Matched → Arrival
+abbrev pub arrival : Frame → ℕ → Option ℕ → Arrival
 arrival f time m = record { frame = f; time = time; matched = m }
 
 -- what a FIFO's slot tells
-abbrev pub slot_says : ℕ → Matched → Slot → Fate
-slot_says fifo m (At p) = stored fifo p m
-slot_says fifo m Lost = lost_to fifo m
+abbrev pub slot_says : ℕ → Option ℕ → Option ℕ → Fate
+slot_says fifo m (Some p) = stored fifo p m
+slot_says fifo m None = lost_to fifo m
 
 -- 6: to FIFO 0 or 1, with priority or without
 unfoldable pub into_fifo : World → ℕ → Bool → Arrival → List ℕ → Effect Fate
@@ -93,7 +87,7 @@ into_nothing w why a = tells (dropped why a.matched) (with_recorded w (drop_note
 
 abbrev pub goes_to : World → Frame → List ℕ → ℕ → Goes → Effect Fate
 goes_to w f d time (to_fifo fifo priority m) = into_fifo w fifo priority (arrival f time m) d
-goes_to w f d time (to_buffer buffer i) = into_buffer w buffer (arrival f time (Filter i)) d
+goes_to w f d time (to_buffer buffer i) = into_buffer w buffer (arrival f time (Some i)) d
 goes_to w f d time (discarded why m) = into_nothing w why (arrival f time m)
 
 abbrev pub receives : World → Frame → List ℕ → ℕ → Effect Fate

@@ -5,23 +5,28 @@ ghost use Rattle.engine.specs.Answers.{ruled};
 ghost use Rattle.engine.specs.Calls.{world};
 ghost use Rattle.receiving.specs.Receive.{receive_refusals};
 
-use engine::fitness::is_unfit;
-use engine::refusals::{Judged, Refusal};
+use engine::fitness::judge_fit;
+use engine::refusals::Refusal;
 use engine::state::{Record, State};
-use frame::{Frame, is_malformed};
+use frame::Frame;
 
 // Call 2, of a frame with so many bytes of data.
-pub fn judge_frame(s: State, recorded: Record, mem: &[u32], f: Frame, len: usize) -> Judged
+#[tactic(auto, unfolding(crate::specs::Receive::receive_refusals))]
+pub fn judge_frame(
+    s: State,
+    recorded: Record,
+    mem: &[u32],
+    f: Frame,
+    len: usize,
+) -> Result<(), Refusal>
     ensures { ruled result ≡ first (receive_refusals (world s recorded mem.now) f len) }
 {
-    if is_unfit(s, recorded, mem.len()) {
-        return Judged::Refused(Refusal::Unfit);
+    judge_fit(s, recorded, mem.len())?;
+    if f.is_malformed(len) {
+        return Err(Refusal::Malformed);
     }
-    if is_malformed(f, len) {
-        return Judged::Refused(Refusal::Malformed);
+    if f.fdf && !s.regs.fdon {
+        return Err(Refusal::FdOff);
     }
-    if f.fdf & !s.regs.fdon {
-        return Judged::Refused(Refusal::FdOff);
-    }
-    Judged::Allowed
+    Ok(())
 }

@@ -6,40 +6,34 @@ ghost use Rattle.receiving.specs.Priority.{prioritised, slot_noted, drop_noted};
 ghost use Rattle.receiving.specs.Needs.{Notable, SlotNotable};
 
 use element::Arrival;
-use engine::flags::{PRIORITY, priority_word, raise, set_priority};
+use engine::flags::{PRIORITY, priority_word};
 use engine::state::Record;
 use filter::Reason;
-use frame::Matched;
-use places::Slot;
 
 // Outcomes in the priority word: no FIFO, lost to one, and stored in FIFO 0. FIFO 1 has one more than that.
+// An enum is no plainer: it would make a case of the FIFO's number, and a number of that again.
 const NO_FIFO: u32 = 0;
 
 const LOST: u32 = 1;
 
 const STORED: u32 = 2;
 
-// The index of the filter that matched, 0 if none did.
-pub fn index_of(m: Matched) -> u32
-    ensures { result ≡ index_of m }
-{
-    match m {
-        Matched::Nothing => 0,
-        Matched::Filter(i) => i,
-    }
-}
-
 fn prioritise(recorded: Record, a: Arrival, outcome: u32, place: u32) -> Record
     requires { Notable a outcome place }
     ensures { result ≡ prioritised recorded a outcome place }
 {
-    let m = a.matched;
-    let word = priority_word(a.frame.xtd, index_of(m), outcome, place);
-    set_priority(raise(recorded, PRIORITY), word)
+    let word = priority_word(a.frame.xtd, a.matched.unwrap_or(0), outcome, place);
+    recorded.raise(PRIORITY).set_priority(word)
 }
 
 // Of an arrival that went to a slot of FIFO 0 or 1, with priority or without.
-pub fn note_slot(recorded: Record, priority: bool, a: Arrival, fifo: u32, slot: Slot) -> Record
+pub fn note_slot(
+    recorded: Record,
+    priority: bool,
+    a: Arrival,
+    fifo: u32,
+    slot: Option<u32>,
+) -> Record
     requires { SlotNotable a fifo slot }
     ensures { result ≡ slot_noted recorded priority a fifo slot }
 {
@@ -47,8 +41,8 @@ pub fn note_slot(recorded: Record, priority: bool, a: Arrival, fifo: u32, slot: 
         return recorded;
     }
     match slot {
-        Slot::At(place) => prioritise(recorded, a, STORED + fifo, place),
-        Slot::Lost => prioritise(recorded, a, LOST, 0),
+        Some(place) => prioritise(recorded, a, STORED + fifo, place),
+        None => prioritise(recorded, a, LOST, 0),
     }
 }
 

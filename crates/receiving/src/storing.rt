@@ -12,30 +12,32 @@ ghost use Rattle.receiving.specs.Needs.{CanStore, CanPut, RingFits};
 
 use areas::data_words;
 use element::Arrival;
-use element::memory::store_rx;
+use element::memory::Element;
 use engine::flags::FIFO_FLAGS;
-use engine::keeping::{Keeper, Kept, keep};
+use engine::keeping::{Keeper, Kept};
 use engine::state::{Record, State};
-use places::{Area, Slot, place_in};
+use places::Area;
 
 pub fn store_at(mem: &mut [u32], area: Area, place: u32, a: Arrival, bytes: &[u8])
     requires { CanStore area place a (length mem.old) }
     ensures { mem.new
         ≡ splice mem.old (place_in area place) (rx_element a bytes.now (data_words area)) }
 {
-    let at = place_in(area, place, mem.len());
-    store_rx(mem, at, data_words(area), a, bytes)
+    let element = Element {
+        at: area.place_in(place, mem.len()),
+        words: data_words(area),
+    };
+    element.store_rx(mem, a, bytes)
 }
 
 // Stores an arrival in a slot, if that has a place.
-pub fn put(mem: &mut [u32], area: Area, slot: Slot, a: Arrival, bytes: &[u8])
+pub fn put(mem: &mut [u32], area: Area, slot: Option<u32>, a: Arrival, bytes: &[u8])
     requires { CanPut area slot a (length mem.old) }
     ensures { mem.new
         ≡ slot_memory mem.old area (rx_element a bytes.now (data_words area)) slot }
 {
-    match slot {
-        Slot::At(place) => store_at(mem, area, place, a, bytes),
-        Slot::Lost => {}
+    if let Some(place) = slot {
+        store_at(mem, area, place, a, bytes)
     }
 }
 
@@ -51,5 +53,5 @@ pub fn keep_in(s: State, fifo: u32, recorded: Record) -> Kept
         overwrites: w.overwrite(),
         first: FIFO_FLAGS * fifo,
     };
-    keep(k, s.fifo_ring(fifo), recorded)
+    k.keep(s.fifo_ring(fifo), recorded)
 }

@@ -4,7 +4,7 @@ use Prim.Native.Nat.{ℕ, ◌+◌, ◌-◌, ◌*◌, ◌%◌, ◌^◌, ◌≤◌
 use mathlib.Core.Path.{◌≡◌, refl, sym, ap, ap₂, subst, ◌∙◌}
 use mathlib.Core.Bool.{Bool, true, ◌&&◌}
 use mathlib.Core.List.{List, [], ◌∷◌}
-use native.Mathlib.Nat.{mod-eq_of_lt, lt_of_lt_of_le, mul_assoc, add_assoc, add-mul, zero-add}
+use native.Mathlib.Nat.{mod-eq_of_lt, lt_of_lt_of_le, mul-lt-mul_of_pos_right, mul_assoc, add_assoc, add-mul, zero-add}
 use native.Mathlib.Omega.{arith}
 use borrow.Author.Tests.{ltb-true, leb-true, eq-eqb}
 use lib.Bits.{bit_and, and_block, and_mask}
@@ -39,6 +39,15 @@ pub record Kept (top w m : ℕ) : Type 0 where
   pub word : w < 2 ^ top
   pub mask : m < 2 ^ top
   pub kept : bit_and w m ≡ w
+
+-- a number in a field of a word is one of 32 bits
+pub placed_fits : (top from n : ℕ) → from ≤ top → top < 32 → n < 2 ^ (top + 1 - from) → n * 2 ^ from < 2 ^ 32
+placed_fits top from n order below holds =
+    let wide : top + 1 - from + from ≡ top + 1 = omega (arith, order) in
+    let over : n * 2 ^ from < 2 ^ (top + 1 - from + from) =
+    rw (pow-add 2 (top + 1 - from) from) (mul-lt-mul_of_pos_right holds (pow_pos from)) in
+    let up : top + 1 ≤ 32 = omega (arith, below) in
+    lt_of_lt_of_le (subst (λ (x : ℕ). n * 2 ^ from < 2 ^ x) wide over) (pow_mono up)
 
 -- a number on top of what is kept below it
 on_top : (wide low n w mask : ℕ) → n < 2 ^ wide → Kept low w mask
@@ -109,10 +118,12 @@ all_stand top (f ∷ fs) (n ∷ ns) above t h =
       subst (Stand fs ns) (sym joined) (all_stand f.1 fs ns more g.rest h.1),
     )
 
-pub built : (fs : List Field) (ns : List ℕ) → T (falling 32 fs) → Fit fs ns → (w : ℕ) → w ≡ placed fs ns
+pub built : (fs : List Field) (ns : List ℕ) (w : ℕ) → falling 32 fs ≡ true → Fit fs ns → w ≡ placed fs ns
     → Built fs ns w
-built fs ns t h w e = subst (Built fs ns) (sym e) (record {
-  word = refl;
-  fields = subst (Stand fs ns) (zero-add (placed fs ns)) (all_stand 32 fs ns 0 t h);
-  named = eq-eqb _ _ (all_kept 32 fs ns t h).kept;
-})
+built fs ns w apart h e =
+    let t : T (falling 32 fs) = subst T (sym apart) tt in
+    subst (Built fs ns) (sym e) (record {
+      word = refl;
+      fields = subst (Stand fs ns) (zero-add (placed fs ns)) (all_stand 32 fs ns 0 t h);
+      named = eq-eqb _ _ (all_kept 32 fs ns t h).kept;
+    })

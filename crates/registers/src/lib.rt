@@ -1,13 +1,16 @@
 // The registers that a start is given.
 #![tactic(auto)]
 
+pub mod field;
 pub mod kinds;
 
 ghost use Rattle.std.specs.Prelude.{◌≡◌, ◌≤◌, ◌<◌, length, get_or};
 ghost use Rattle.registers.specs.Fields.{fifo_word, fifo_code, tx_count, is_queue};
 ghost use Rattle.registers.specs.Given.{all_named, registers_from, reset_registers};
 
-use crate::kinds::{Gfc, Rxbc, Rxesc, Rxfc, Sidfc, Txbc, Txefc, Txesc, Xidam, Xidfc};
+use crate::kinds::{
+    Gfc, Register, Rxbc, Rxesc, Rxfc, SectionRegister, Sidfc, Txbc, Txefc, Txesc, Xidam, Xidfc,
+};
 
 // The eleven registers, the number of Rx buffers, whether FD and the rate switch are on, and the memory's length.
 #[derive(Clone, Copy)]
@@ -83,38 +86,37 @@ impl Registers {
     pub fn only_named(self) -> bool
         ensures { result ≡ all_named self }
     {
-        let sidfc = self.sidfc.only_named();
-        let xidfc = self.xidfc.only_named();
-        let rxf0c = self.rxf0c.only_named();
-        let rxf1c = self.rxf1c.only_named();
-        let rxbc = self.rxbc.only_named();
-        let rxesc = self.rxesc.only_named();
-        let txefc = self.txefc.only_named();
-        let txbc = self.txbc.only_named();
-        let txesc = self.txesc.only_named();
-        let gfc = self.gfc.only_named();
-        let xidam = self.xidam.only_named();
-        sidfc & xidfc & rxf0c & rxf1c & rxbc & rxesc & txefc & txbc & txesc & gfc & xidam
+        self.sidfc.only_named()
+            & self.xidfc.only_named()
+            & self.rxf0c.only_named()
+            & self.rxf1c.only_named()
+            & self.rxbc.only_named()
+            & self.rxesc.only_named()
+            & self.txefc.only_named()
+            & self.txbc.only_named()
+            & self.txesc.only_named()
+            & self.gfc.only_named()
+            & self.xidam.only_named()
     }
 
-    // The register of Rx FIFO 0 or 1.
+    // The register of Rx FIFO 0 or 1. A number and no enum, which would be no plainer: flags are worked out from it.
+    #[tactic(auto, unfolding(crate::specs::Fields::fifo_word))]
     pub fn fifo(self, number: u32) -> Rxfc
         ensures { result.word ≡ fifo_word self number }
     {
-        if number == 0 {
-            return self.rxf0c;
-        }
-        self.rxf1c
+        if number == 0 { self.rxf0c } else { self.rxf1c }
     }
 
     // The size code of its elements.
+    #[tactic(auto, unfolding(crate::specs::Fields::fifo_code))]
     pub fn fifo_code(self, number: u32) -> u32
         ensures { (result ≡ fifo_code self number) × (result < 8) }
     {
         if number == 0 {
-            return self.rxesc.fifo0();
+            self.rxesc.fifo0()
+        } else {
+            self.rxesc.fifo1()
         }
-        self.rxesc.fifo1()
     }
 
     // How many Tx buffers there are, dedicated and shared.

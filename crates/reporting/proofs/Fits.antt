@@ -9,7 +9,7 @@ use lib.Dec.{eqb, leb}
 use lib.ListN.{length}
 use Rattle.words.specs.Bits.{with_bit, without_bit}
 use Rattle.words.specs.Rules.{allowed, first}
-use Rattle.words.proofs.Bits.{set_lt}
+use Rattle.words.proofs.BitLaws.{set_lt}
 use Rattle.words.proofs.Choices.{pick_first, pick_second, and_both}
 use Rattle.ring.specs.Rings.{Fit, held, released}
 use Rattle.ring.specs.declared.Ring.{Ring}

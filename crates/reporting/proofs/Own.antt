@@ -1,5 +1,6 @@
 -- What a report looks at and writes: the Tx buffers' section, and one event.
 -- Assumes nothing.
+use Rattle.std.proofs.Common.{Option, Some, None}
 use Prim.Native.Nat.{ℕ, ◌≤◌, ◌<◌}
 use mathlib.Core.Path.{◌≡◌, refl, sym, ap₂}
 use mathlib.Core.Bool.{Bool, true, false, not, ◌||◌}
@@ -15,15 +16,13 @@ use Rattle.words.specs.Rules.{first}
 use Rattle.words.proofs.Ranges.{only_none}
 use Rattle.ring.specs.Rings.{put_place}
 use Rattle.ring.specs.declared.Ring.{Ring}
-use Rattle.ring.proofs.Circle.{place_lt}
+use Rattle.ring.proofs.Places.{place_lt}
 use Rattle.frame.specs.declared.Frame.{Frame}
 use Rattle.registers.specs.Fields.{event_size}
 use Rattle.registers.specs.declared.Registers.{Registers}
 use Rattle.element.specs.declared.TxHeader.{TxHeader}
 use Rattle.places.specs.Areas.{place_range, area_end, place_in}
 use Rattle.places.specs.Slots.{take_rule, slot_memory}
-use Rattle.places.specs.declared.Slot.{Slot}
-use Rattle.places.specs.declared.Slot.TheVariants.{At, Lost}
 use Rattle.places.specs.declared.Taken.{Taken}
 use Rattle.places.proofs.Stores.{element_inside, store_own}
 use Rattle.places.proofs.Takes.{take_cases}
@@ -52,7 +51,7 @@ use Rattle.reporting.proofs.Judgements.{report_open}
 module _ (g : Registers) (q : Ring) (mem ws : List ℕ) (room : area_end (event_area g) ≤ length mem)
     (two : length ws ≡ 2) where
   -- at the put place, where the list has room
-  abbrev Slotted : Slot → Type 0
+  abbrev Slotted : Option ℕ → Type 0
   Slotted slot =
       OnlyIn (pick (ltb q.fill (event_size g)) (place_range (event_area g) (put_place q (event_size g))) (front 0)) mem
       (slot_memory mem (event_area g) ws slot)
@@ -94,14 +93,14 @@ report_writes_one_event w buffer passive time =
 -- ---- what it looks at
 
 -- the same event in the same slot of two memories
-slot_alike : (g : Registers) (sections : Range) (mem other ws : List ℕ) (slot : Slot)
+slot_alike : (g : Registers) (sections : Range) (mem other ws : List ℕ) (slot : Option ℕ)
     → SameSections g sections mem other → area_end (event_area g) ≤ length mem → length ws ≡ 2
-    → ((p : ℕ) → slot ≡ At p → p < event_size g)
+    → ((p : ℕ) → slot ≡ Some p → p < event_size g)
     → SameSections g sections (slot_memory mem (event_area g) ws slot) (slot_memory other (event_area g) ws slot)
-slot_alike g sections mem other ws (At p) same room two within =
+slot_alike g sections mem other ws (Some p) same room two within =
     store_alike g sections mem other same (place_in (event_area g) p) ws
     (omega (arith, element_inside (event_area g) p (within p refl)))
-slot_alike g sections mem other ws Lost same room two within = same
+slot_alike g sections mem other ws None same room two within = same
 
 module _ (w : World) (buffer : ℕ) (passive : Bool) (time : ℕ) where
   -- the effect, by the header of the sent element

@@ -1,5 +1,5 @@
 -- What helpers ask of their callers. A reader of the promises need not read it.
-use Rattle.std.specs.Prelude.{ℕ, ◌<◌, ◌≡◌, true}
+use Rattle.std.specs.Prelude.{ℕ, ◌<◌, ◌≡◌, true, Option, Some}
 use Rattle.ring.specs.Rings.{Fit}
 use Rattle.frame.specs.declared.Frame.{Frame}
 use Rattle.registers.specs.Fields.{tx_count, event_size}
@@ -7,8 +7,6 @@ use Rattle.layout.specs.Legal.{Legal}
 use Rattle.element.specs.Fitting.{InFields}
 use Rattle.places.specs.Areas.{Roomy}
 use Rattle.places.specs.declared.Area.{Area}
-use Rattle.places.specs.declared.Slot.{Slot}
-use Rattle.places.specs.declared.Slot.TheVariants.{At}
 use Rattle.engine.specs.Fitness.{Sound}
 use Rattle.engine.specs.declared.state.State.{State}
 use Rattle.choosing.specs.Choosing.{is_candidate}
@@ -25,7 +23,7 @@ pub record CanTell (s : State) (words : ℕ) : Type 0 where
   pub events : Fit s.events (event_size s.regs)
 
 -- an event can be written to a slot: it is in the area, if it is anywhere
-pub record EventFits (a : Area) (words : ℕ) (slot : Slot) (f : Frame) : Type 0 where
+pub record EventFits (a : Area) (words : ℕ) (slot : Option ℕ) (f : Frame) : Type 0 where
   pub room : Roomy a words
-  pub within : (p : ℕ) → slot ≡ At p → p < a.count
+  pub within : (p : ℕ) → slot ≡ Some p → p < a.count
   pub frame : InFields f

@@ -12,17 +12,11 @@ use areas::{event_area, tx_area};
 use choosing::buffers::{form_sent, header_at};
 use element::memory::store_event;
 use engine::flags::EVENT_FLAGS;
-use engine::keeping::{Keeper, keep};
-use engine::state::{Record, State};
+use engine::keeping::Keeper;
+use engine::state::{After, Record, State};
 use frame::Frame;
-use places::{Area, Slot, place_in};
+use places::Area;
 use registers::Registers;
-
-#[derive(Clone, Copy)]
-pub struct AfterEvent {
-    pub state: State,
-    pub recorded: Record,
-}
 
 // A full list blocks.
 fn event_keeper(r: Registers) -> Keeper
@@ -37,41 +31,31 @@ fn event_keeper(r: Registers) -> Keeper
 }
 
 // Writes an event to its slot, if it has one.
-fn write_event(mem: &mut [u32], a: Area, slot: Slot, marker: u8, f: Frame, time: u16)
+fn write_event(mem: &mut [u32], a: Area, slot: Option<u32>, marker: u8, f: Frame, time: u16)
     requires { EventFits a (length mem.old) slot f }
     ensures { mem.new ≡ slot_memory mem.old a (event_element marker f time) slot }
 {
-    let Slot::At(place) = slot else {
-        return;
-    };
-    let at = place_in(a, place, mem.len());
-    store_event(mem, at, marker, f, time)
+    if let Some(place) = slot {
+        store_event(mem, a.place_in(place, mem.len()), marker, f, time)
+    }
 }
 
 // A full list loses the event, with a flag.
-fn keep_event(
-    s: State,
-    recorded: Record,
-    mem: &mut [u32],
-    marker: u8,
-    f: Frame,
-    time: u16,
-) -> AfterEvent
+fn keep_event(s: State, recorded: Record, mem: &mut [u32], marker: u8, f: Frame, time: u16) -> After
     requires { CanTell s (length mem.old) × InFields f }
     ensures { world result.state result.recorded mem.new
         ≡ event_kept (world s recorded mem.old) marker f time }
 {
-    let kept = keep(event_keeper(s.regs), s.events, recorded);
-    let slot = kept.slot;
-    let after = kept.recorded;
-    write_event(mem, event_area(s.regs), slot, marker, f, time);
-    AfterEvent {
+    let kept = event_keeper(s.regs).keep(s.events, recorded);
+    write_event(mem, event_area(s.regs), kept.slot, marker, f, time);
+    After {
         state: s.with_events(kept.ring),
-        recorded: after,
+        recorded: kept.recorded,
     }
 }
 
 // After the send: an event, where the sent element wants one, with the frame as sent.
+#[tactic(auto, using(crate::proofs::Events::sent_in_fields))]
 pub fn tell_event(
     s: State,
     recorded: Record,
@@ -79,7 +63,7 @@ pub fn tell_event(
     buffer: u32,
     passive: bool,
     time: u16,
-) -> AfterEvent
+) -> After
     requires { CanTell s (length mem.old) × (buffer < tx_count s.regs) }
     ensures { world result.state result.recorded mem.new
         ≡ event_due (world s recorded mem.old) buffer passive time }
@@ -89,5 +73,5 @@ pub fn tell_event(
         let f = form_sent(s.regs, h.frame, passive);
         return keep_event(s, recorded, mem, h.marker, f, time);
     }
-    AfterEvent { state: s, recorded }
+    After { state: s, recorded }
 }

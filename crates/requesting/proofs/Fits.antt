@@ -9,7 +9,7 @@ use lib.Dec.{eqb}
 use lib.ListN.{length}
 use Rattle.words.specs.Bits.{with_bit}
 use Rattle.words.specs.Rules.{allowed, first}
-use Rattle.words.proofs.Bits.{set_lt}
+use Rattle.words.proofs.BitLaws.{set_lt}
 use Rattle.words.proofs.Choices.{pick_first, pick_second}
 use Rattle.ring.specs.Rings.{put_place, pushed, held}
 use Rattle.ring.specs.declared.Ring.{Ring}

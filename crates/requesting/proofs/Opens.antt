@@ -1,34 +1,33 @@
 -- What is known where nothing is against a call, and so what its helpers ask.
 -- Assumes nothing.
 use Prim.Native.Nat.{ℕ, ◌<◌}
-use mathlib.Core.Path.{◌≡◌, sym, ap, ◌∙◌}
+use mathlib.Core.Path.{◌≡◌, sym}
 use mathlib.Core.Bool.{true, false, not}
 use mathlib.Core.List.{List, [], ◌∷◌}
 use borrow.Author.Tests.{leb-false, not-false}
 use native.Mathlib.Omega.{arith}
 use lib.ListN.{length}
 use Rattle.words.specs.Rules.{allowed, first}
+use Rattle.words.proofs.Rulings.{all_three}
 use Rattle.frame.specs.Malformed.{malformed}
 use Rattle.element.specs.declared.TxHeader.{TxHeader}
 use Rattle.element.proofs.Fitness.{frame_fits}
 use Rattle.registers.specs.Fields.{dedicated, shared, tx_count}
 use Rattle.areas.proofs.Rooms.{tx_roomy}
-use Rattle.engine.specs.Answers.{ruled}
+use Rattle.layout.specs.Verdict.{plain}
 use Rattle.engine.specs.Buffers.{no_tx_buffer, is_pending, in_shared_fifo}
 use Rattle.engine.specs.Calls.{World, world, ◌when◌, is_unfit}
 use Rattle.engine.specs.Fitness.{Sound}
-use Rattle.engine.specs.declared.refusals.Judged.{Judged}
-use Rattle.engine.specs.declared.refusals.Judged.TheVariants.{Allowed}
 use Rattle.engine.specs.declared.state.State.{State}
 use Rattle.engine.specs.declared.state.Record.{Record}
 use Rattle.engine.proofs.Buffers.{buffer_small}
 use Rattle.engine.proofs.Calls.{row_off}
 use Rattle.engine.proofs.Sounds.{sound_of}
 use Rattle.requesting.specs.Cancelling.{cancel_refusals}
-use Rattle.requesting.specs.Needs.{Requestable, CanFindPlace, SharedRoom}
+use Rattle.requesting.specs.Needs.{Requestable, SharedRoom}
 use Rattle.requesting.specs.Places.{free_place, none_free, free_buffer}
 use Rattle.requesting.specs.Requesting.{not_dedicated, dedicated_refusals, shared_refusals}
-use Rattle.requesting.proofs.Places.{can_find, free_room}
+use Rattle.requesting.proofs.Places.{free_room}
 
 -- ---- call 7
 
@@ -66,13 +65,9 @@ pub shared_open : (w : World) (h : TxHeader) (bytes : ℕ) → first (shared_ref
     → SharedOpen w h bytes
 unfolding shared_refusals
 shared_open w h bytes e =
-    let p = row_off 20 _ (21 when malformed h.frame bytes ∷ 25 when none_free w.state ∷ []) e in
-    let q = row_off 21 _ (25 when none_free w.state ∷ []) p.1 in
-    record {
-      fit = p.0;
-      formed = q.0;
-      number = leb-false (shared w.state.regs) (free_place w.state) (row_off 25 _ [] q.1).0;
-    }
+    let p =
+    all_three (is_unfit w) (malformed h.frame bytes) (none_free w.state) (plain 20) (plain 21) (plain 25) e in
+    record { fit = p.0; formed = p.1; number = leb-false (shared w.state.regs) (free_place w.state) p.2 }
 
 -- ---- call 9
 
@@ -127,30 +122,26 @@ shared_requestable w h bytes e =
     let o = shared_open w h bytes e in
     requestable w (free_buffer w.state) h bytes o.fit o.formed (omega (arith, o.number))
 
--- ---- the same, of what was judged
+-- ---- the same, where nothing was found
 
-module _ (s : State) (r : Record) (mem : List ℕ) (j : Judged) (y : j ≡ Allowed) where
+module _ (s : State) (r : Record) (mem : List ℕ) where
   pub dedicated_can : (buffer : ℕ) (h : TxHeader) (len : ℕ)
-      → ruled j ≡ first (dedicated_refusals (world s r mem) buffer h len) → Requestable s (length mem) buffer h
-  dedicated_can buffer h len e = dedicated_requestable (world s r mem) buffer h len (sym e ∙ ap ruled y)
+      → allowed ≡ first (dedicated_refusals (world s r mem) buffer h len) → Requestable s (length mem) buffer h
+  dedicated_can buffer h len e = dedicated_requestable (world s r mem) buffer h len (sym e)
 
-  module _ (h : TxHeader) (len : ℕ) (e : ruled j ≡ first (shared_refusals (world s r mem) h len)) where
-    pub shared_can : (buffer : ℕ) → buffer ≡ free_buffer s → Requestable s (length mem) buffer h
-    shared_can buffer q = rw q (shared_requestable (world s r mem) h len (sym e ∙ ap ruled y))
-
-    is_open : SharedOpen (world s r mem) h len
-    is_open = shared_open (world s r mem) h len (sym e ∙ ap ruled y)
-
-    pub shared_look : CanFindPlace s
-    shared_look = can_find s (length mem) (open_sound (world s r mem) is_open.fit)
+  module _ (h : TxHeader) (len : ℕ) (e : allowed ≡ first (shared_refusals (world s r mem) h len)) where
+    pub shared_can : Requestable s (length mem) (free_buffer s) h
+    shared_can = shared_requestable (world s r mem) h len (sym e)
 
     pub shared_room : SharedRoom s
-    shared_room = record {
-      ring = (open_sound (world s r mem) is_open.fit).shared;
-      room = λ u. (free_room s u is_open.number).0;
-    }
+    shared_room =
+        let o = shared_open (world s r mem) h len (sym e) in
+        record {
+          ring = (open_sound (world s r mem) o.fit).shared;
+          room = λ u. (free_room s u o.number).0;
+        }
 
-  pub cancel_small : (buffer : ℕ) → ruled j ≡ first (cancel_refusals (world s r mem) buffer) → buffer < 32
+  pub cancel_small : (buffer : ℕ) → allowed ≡ first (cancel_refusals (world s r mem) buffer) → buffer < 32
   cancel_small buffer e =
-      let o = cancel_open (world s r mem) buffer (sym e ∙ ap ruled y) in
+      let o = cancel_open (world s r mem) buffer (sym e) in
       buffer_small s (length mem) (open_sound (world s r mem) o.fit) buffer o.number

@@ -1,30 +1,28 @@
 -- The place in the shared part that a request takes: a queue's is the lowest clear bit of its pending bits.
 -- Assumes nothing.
-use Prim.Native.Nat.{ℕ, ◌+◌, ◌/◌, ◌%◌, ◌^◌, ◌≤◌, ◌<◌}
+use Prim.Native.Nat.{ℕ, ◌+◌, ◌/◌, ◌%◌, ◌^◌, ◌<◌}
 use mathlib.Core.Path.{◌≡◌, refl, sym, ap, ◌∙◌}
 use mathlib.Core.Bool.{Bool, true, false, not}
-use borrow.Author.Tests.{lt-ltb, le-ltb, ltb-true, ltb-false}
+use borrow.Author.Tests.{ltb-true, ltb-false}
 use native.Mathlib.Nat.{div-eq_of_lt, zero-add}
 use native.Mathlib.Omega.{arith}
 use lib.Dec.{eqb, ltb}
 use lib.Pow.{shr-shr}
-use mir.Val.{Fits}
-use mir.Syntax.{w32}
 use Rattle.words.specs.Bits.{bit, is_set, LowestClear}
 use Rattle.words.specs.Choice.{pick}
 use Rattle.words.specs.Least.{least_from}
 use Rattle.words.proofs.Choices.{pick_first, pick_second}
-use Rattle.words.proofs.Lowest.{least_none, least_is, least_absent, least_within}
-use Rattle.ring.specs.Rings.{Fit, put_place, pushed}
+use Rattle.words.proofs.Lowest.{least_none, least_is, least_absent}
+use Rattle.ring.specs.Rings.{Fit, put_place}
 use Rattle.ring.specs.declared.Ring.{Ring}
-use Rattle.ring.proofs.Circle.{place_lt}
+use Rattle.ring.proofs.Places.{place_lt}
 use Rattle.registers.specs.Fields.{dedicated, shared, is_queue}
 use Rattle.engine.specs.Buffers.{is_pending}
-use Rattle.engine.specs.Fitness.{Sound}
+use Rattle.engine.specs.Fitness.{shared_ring_size, Sound}
 use Rattle.engine.specs.declared.state.State.{State}
 use Rattle.engine.proofs.Cases.{fifo_ring_is}
 use Rattle.requesting.specs.Needs.{QueueFits, CanFindPlace, SharedRoom}
-use Rattle.requesting.specs.Places.{queue_place, fifo_place, free_place, shared_after}
+use Rattle.requesting.specs.Places.{queue_place, fifo_place, free_place}
 
 -- ---- a queue's, of plain numbers
 
@@ -84,13 +82,8 @@ module _ (pending dedicated shared : ℕ) (f : QueueFits pending dedicated share
 -- ---- a FIFO's
 
 module _ (q : Ring) (size : ℕ) where
-  pub put_free : (p : ℕ) → q.fill < size → p ≡ put_place q size → p ≡ fifo_place q size
-  unfolding fifo_place
-  put_free p h e = e ∙ sym (pick_first (put_place q size) size (lt-ltb _ _ h))
-
-  pub put_none : size ≤ q.fill → size ≡ fifo_place q size
-  unfolding fifo_place
-  put_none h = sym (pick_second (put_place q size) size (le-ltb _ _ h))
+  pub put_below : Fit q size → q.fill < size → put_place q size < size
+  put_below f h = place_lt q size q.fill (omega arith)
 
   -- what is shown of both is shown of it
   fifo_ways : (P : ℕ → Type 0) → (q.fill < size → P (put_place q size)) → P size → P (fifo_place q size)
@@ -106,21 +99,16 @@ module _ (q : Ring) (size : ℕ) where
 pub can_find : (s : State) (words : ℕ) → Sound s words → CanFindPlace s
 can_find s words h = record { few = h.legal.counted.together; bits = h.pending; ring = h.shared }
 
-module _ (s : State) (n : ℕ) (h : CanFindPlace s) (e : n ≡ shared s.regs) (b : Bool)
-    (q : b ≡ is_queue s.regs) where
-  pub queue_fits : (m : ℕ) → m ≡ dedicated s.regs → QueueFits s.pending m n
-  queue_fits m t = rw (t, e) (record { few = h.few; bits = h.bits })
+pub queue_fits : (s : State) → CanFindPlace s → QueueFits s.pending (dedicated s.regs) (shared s.regs)
+queue_fits s h = record { few = h.few; bits = h.bits }
 
-  pub queue_found : b ≡ true → (m p : ℕ) → m ≡ dedicated s.regs → p ≡ queue_place s.pending m n → p ≡ free_place s
-  unfolding free_place
-  queue_found y m p t u = u ∙ simp (e, t, ← q, y)
+-- in FIFO mode the shared ring has a place for each shared buffer
+shared_fits : (s : State) → is_queue s.regs ≡ false → Fit s.shared (shared_ring_size s.regs)
+    → Fit s.shared (shared s.regs)
+shared_fits s e h = rw (fifo_ring_is s.regs (is_queue s.regs) refl e (shared s.regs) refl) h
 
-  pub fifo_fits : b ≡ false → Fit s.shared n
-  fifo_fits z = rw (fifo_ring_is s.regs b q z n e) h.ring
-
-  pub fifo_found : b ≡ false → (p : ℕ) → p ≡ fifo_place s.shared n → p ≡ free_place s
-  unfolding free_place
-  fifo_found z p u = u ∙ simp (e, ← q, z)
+pub fifo_fits : (s : State) → CanFindPlace s → is_queue s.regs ≡ false → Fit s.shared (shared s.regs)
+fifo_fits s h e = shared_fits s e h.ring
 
 -- the two ways of a free place
 module _ (s : State) where
@@ -142,35 +130,7 @@ module _ (s : State) where
       → (s.shared.fill < shared s.regs) × (free_place s ≡ put_place s.shared (shared s.regs)))
       (λ l q. (l, q)) (λ q. absurd (omega arith)) (free_fifo e)
 
-  -- it is at most their number
-  pub free_most : free_place s ≤ shared s.regs
-  free_most = go (is_queue s.regs) refl
-    where
-      go : (t : Bool) → is_queue s.regs ≡ t → free_place s ≤ shared s.regs
-      go true e =
-          omega
-          (arith, free_queue e, least_within (λ p. not (is_pending s (dedicated s.regs + p))) 0 (shared s.regs))
-      go false e =
-          fifo_ways s.shared (shared s.regs) (λ (p : ℕ). free_place s ≡ p → free_place s ≤ shared s.regs)
-          (λ l q. omega (arith, place_lt s.shared (shared s.regs) s.shared.fill (omega arith)))
-          (λ q. omega arith) (free_fifo e)
-
-  pub buffer_sum : (m p : ℕ) → m ≡ dedicated s.regs → p ≡ free_place s → Fits w32 (m + p)
-  buffer_sum m p e q = record { fits = omega (arith, free_most) }
-
 -- ---- the ring after a request
 
-module _ (s : State) (b : Bool) (e : b ≡ is_queue s.regs) where
-  pub after_queue : b ≡ true → s.shared ≡ shared_after s
-  after_queue y = sym (pick_first s.shared (pushed s.shared) (sym e ∙ y))
-
-  module _ (z : b ≡ false) where
-    pub after_fifo : (next : Ring) → next ≡ pushed s.shared → next ≡ shared_after s
-    after_fifo next q = q ∙ sym (pick_second s.shared (pushed s.shared) (sym e ∙ z))
-
-    module _ (n : ℕ) (h : SharedRoom s) (q : n ≡ shared s.regs) where
-      pub push_fits : Fit s.shared n
-      push_fits = rw (fifo_ring_is s.regs b e z n q) h.ring
-
-      pub push_room : s.shared.fill < n
-      push_room = omega (arith, h.room (sym e ∙ z))
+pub push_fits : (s : State) → SharedRoom s → is_queue s.regs ≡ false → Fit s.shared (shared s.regs)
+push_fits s h e = shared_fits s e h.ring

@@ -1,5 +1,6 @@
 -- The buffer in the shared part that a request takes, and the Tx buffers after a request.
-use Rattle.std.specs.Prelude.{ℕ, ◌+◌, Bool, not, ltb, leb}
+use Rattle.std.specs.Prelude.{ℕ, ◌+◌, Bool, not, ltb, leb, Option}
+use Rattle.std.specs.Bool.{then_some}
 use Rattle.words.specs.Bits.{is_set, with_bit, without_bit}
 use Rattle.words.specs.Choice.{pick}
 use Rattle.words.specs.Least.{least_from}
@@ -31,6 +32,10 @@ free_place s =
     pick (is_queue s.regs)
     (queue_place s.pending (dedicated s.regs) (shared s.regs))
     (fifo_place s.shared (shared s.regs))
+
+-- a place of so many, and none where it is as many as they are
+abbrev pub below : ℕ → ℕ → Option ℕ
+below count place = then_some (ltb place count) place
 
 -- 25: no shared buffer is free, or none exist
 abbrev pub none_free : State → Bool

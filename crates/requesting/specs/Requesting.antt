@@ -2,7 +2,7 @@
 use Rattle.std.specs.Prelude.{ℕ, Bool, List, [], ◌∷◌, leb, length}
 use Rattle.words.specs.Runs.{splice}
 use Rattle.ring.specs.declared.Ring.{Ring}
-use Rattle.shape.specs.Calls.{Says, refuses, answers, tells, call}
+use Rattle.shape.specs.Calls.{tells, call}
 use Rattle.shape.specs.Refusals.{Refusals}
 use Rattle.frame.specs.Malformed.{malformed}
 use Rattle.element.specs.Elements.{tx_element}
@@ -11,18 +11,10 @@ use Rattle.places.specs.Areas.{place_in}
 use Rattle.places.specs.declared.Area.{Area}
 use Rattle.registers.specs.Fields.{dedicated}
 use Rattle.areas.specs.Areas.{tx_area, data_words}
-use Rattle.engine.specs.Answers.{told}
 use Rattle.engine.specs.Buffers.{is_pending}
 use Rattle.engine.specs.Calls.{World, world, Outcome, Effect, ◌when◌, is_unfit}
 use Rattle.engine.specs.declared.state.State.{State}
 use Rattle.requesting.specs.Places.{requested, none_free, free_buffer, shared_after}
-use Rattle.requesting.specs.declared.requesting.Requested.{Requested}
-use Rattle.requesting.specs.declared.requesting.Requested.TheVariants.{Buffer, Refused}
-
--- what the code answers
-abbrev pub meaning : Requested → Says ℕ
-meaning (Buffer b) = answers b
-meaning (Refused n) = refuses (told n)
 
 -- the memory with a request in a buffer: its element is written whole
 unfoldable pub written : List ℕ → Area → ℕ → TxHeader → List ℕ → List ℕ

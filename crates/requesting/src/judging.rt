@@ -1,20 +1,21 @@
 // What is found against the calls before anything is done: the refusal of the lowest number.
-ghost use Rattle.std.specs.Prelude.{◌≡◌};
+ghost use Rattle.std.specs.Prelude.{◌≡◌, IfOk};
 ghost use Rattle.words.specs.Rules.{first};
 ghost use Rattle.engine.specs.Answers.{ruled};
 ghost use Rattle.engine.specs.Calls.{world};
 ghost use Rattle.requesting.specs.Cancelling.{cancel_refusals};
+ghost use Rattle.requesting.specs.Places.{free_place};
 ghost use Rattle.requesting.specs.Requesting.{dedicated_refusals, shared_refusals};
 
 use crate::sharing::free_place;
 use element::TxHeader;
-use engine::fitness::is_unfit;
-use engine::refusals::{Judged, Refusal};
+use engine::fitness::judge_fit;
+use engine::refusals::Refusal;
 use engine::state::{Record, State};
-use frame::is_malformed;
-use words::bits32;
+use words::bits;
 
 // Call 7, with so many bytes of data.
+#[tactic(auto, using(crate::proofs::Judgements::few), unfolding(crate::specs::Requesting::dedicated_refusals))]
 pub fn judge_dedicated(
     s: State,
     recorded: Record,
@@ -22,55 +23,55 @@ pub fn judge_dedicated(
     buffer: u32,
     h: TxHeader,
     len: usize,
-) -> Judged
+) -> Result<(), Refusal>
     ensures { ruled result ≡ first (dedicated_refusals (world s recorded mem.now) buffer h len) }
 {
-    if is_unfit(s, recorded, mem.len()) {
-        return Judged::Refused(Refusal::Unfit);
-    }
-    if is_malformed(h.frame, len) {
-        return Judged::Refused(Refusal::Malformed);
+    judge_fit(s, recorded, mem.len())?;
+    if h.frame.is_malformed(len) {
+        return Err(Refusal::Malformed);
     }
     if s.regs.txbc.dedicated() <= buffer {
-        return Judged::Refused(Refusal::NoSuch);
+        return Err(Refusal::NoSuch);
     }
-    if bits32::test(s.pending, buffer) {
-        return Judged::Refused(Refusal::AlreadyPending);
+    if bits::test(s.pending, buffer) {
+        return Err(Refusal::AlreadyPending);
     }
-    Judged::Allowed
+    Ok(())
 }
 
-// Call 8.
-pub fn judge_shared(s: State, recorded: Record, mem: &[u32], h: TxHeader, len: usize) -> Judged
-    ensures { ruled result ≡ first (shared_refusals (world s recorded mem.now) h len) }
+// Call 8, and the place that it takes where nothing is against it.
+#[tactic(auto, using(crate::proofs::Judgements::can_look), unfolding(crate::specs::Requesting::shared_refusals))]
+pub fn judge_shared(
+    s: State,
+    recorded: Record,
+    mem: &[u32],
+    h: TxHeader,
+    len: usize,
+) -> Result<u32, Refusal>
+    ensures refusal { ruled result ≡ first (shared_refusals (world s recorded mem.now) h len) }
+    ensures place { IfOk result (λ p. p ≡ free_place s) }
 {
-    if is_unfit(s, recorded, mem.len()) {
-        return Judged::Refused(Refusal::Unfit);
+    judge_fit(s, recorded, mem.len())?;
+    if h.frame.is_malformed(len) {
+        return Err(Refusal::Malformed);
     }
-    if is_malformed(h.frame, len) {
-        return Judged::Refused(Refusal::Malformed);
-    }
-    if s.regs.txbc.shared() <= free_place(s) {
-        return Judged::Refused(Refusal::NoneFree);
-    }
-    Judged::Allowed
+    free_place(s).ok_or(Refusal::NoneFree)
 }
 
 // Call 9.
-pub fn judge_cancel(s: State, recorded: Record, mem: &[u32], buffer: u32) -> Judged
+#[tactic(auto, using(crate::proofs::Judgements::few), unfolding(crate::specs::Cancelling::cancel_refusals))]
+pub fn judge_cancel(s: State, recorded: Record, mem: &[u32], buffer: u32) -> Result<(), Refusal>
     ensures { ruled result ≡ first (cancel_refusals (world s recorded mem.now) buffer) }
 {
-    if is_unfit(s, recorded, mem.len()) {
-        return Judged::Refused(Refusal::Unfit);
-    }
+    judge_fit(s, recorded, mem.len())?;
     if s.regs.tx_count() <= buffer {
-        return Judged::Refused(Refusal::NoSuch);
+        return Err(Refusal::NoSuch);
     }
-    if (s.regs.txbc.dedicated() <= buffer) & !s.regs.is_queue() {
-        return Judged::Refused(Refusal::InSharedFifo);
+    if s.regs.txbc.dedicated() <= buffer && !s.regs.is_queue() {
+        return Err(Refusal::InSharedFifo);
     }
-    if bits32::test(s.pending, buffer) {
-        return Judged::Allowed;
+    if !bits::test(s.pending, buffer) {
+        return Err(Refusal::NotPending);
     }
-    Judged::Refused(Refusal::NotPending)
+    Ok(())
 }

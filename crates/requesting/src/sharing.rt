@@ -1,58 +1,56 @@
 // The shared part: the place that a request takes, and the ring after it.
 ghost use Rattle.std.specs.Prelude.{◌≡◌};
-ghost use Rattle.ring.specs.Rings.{Fit};
+ghost use Rattle.registers.specs.Fields.{shared};
 ghost use Rattle.requesting.specs.Needs.{QueueFits, CanFindPlace, SharedRoom};
-ghost use Rattle.requesting.specs.Places.{queue_place, fifo_place, free_place, free_buffer, shared_after};
+ghost use Rattle.requesting.specs.Places.{below, queue_place, fifo_place, free_place, shared_after};
 
 use engine::state::State;
-use ring::Ring;
-use words::bits32;
+use ring::{Circle, Ring};
+use words::bits;
 
-// A queue's lowest-numbered buffer that is not pending, or how many there are: the trailing zeros of the complemented
-// pending word.
-fn queue_place(pending: u32, dedicated: u32, shared: u32) -> u32
+// A queue's lowest-numbered buffer that is not pending: the trailing zeros of the complemented pending word.
+#[tactic(auto, using(crate::proofs::Places::lowest_place))]
+fn queue_place(pending: u32, dedicated: u32, shared: u32) -> Option<u32>
     requires { QueueFits pending dedicated shared }
-    ensures { result ≡ queue_place pending dedicated shared }
+    ensures { result ≡ below shared (queue_place pending dedicated shared) }
 {
     // With no shared buffer, all 32 may be dedicated.
     if shared == 0 {
-        return 0;
+        return None;
     }
-    bits32::lowest_clear(pending >> dedicated)
+    let place = bits::lowest_clear(pending >> dedicated);
+    (place < shared).then_some(place)
 }
 
-// A FIFO's put place while it is not full, or its size.
-fn fifo_place(q: Ring, size: u32) -> u32
-    requires { Fit q size }
-    ensures { result ≡ fifo_place q size }
+// A FIFO's put place while it is not full.
+#[tactic(auto, using(crate::proofs::Places::put_below), unfolding(crate::specs::Places::fifo_place))]
+fn fifo_place(q: Circle) -> Option<u32>
+    ensures { result ≡ below q.size (fifo_place q.ring q.size) }
 {
-    if q.fill < size {
-        return ring::put_place(q, size);
+    if q.ring.fill < q.size {
+        return Some(q.put_place());
     }
-    size
+    None
 }
 
-// The place in the shared part that a request takes, or how many there are where none is free.
-pub fn free_place(s: State) -> u32
+// The place in the shared part that a request takes, if one is free.
+#[tactic(auto, using(crate::proofs::Places::queue_fits, crate::proofs::Places::fifo_fits), unfolding(crate::specs::Places::free_place))]
+pub fn free_place(s: State) -> Option<u32>
     requires { CanFindPlace s }
-    ensures { result ≡ free_place s }
+    ensures { result ≡ below (shared s.regs) (free_place s) }
 {
     let shared = s.regs.txbc.shared();
     if s.regs.is_queue() {
         return queue_place(s.pending, s.regs.txbc.dedicated(), shared);
     }
-    fifo_place(s.shared, shared)
-}
-
-// The buffer at that place.
-pub fn free_buffer(s: State) -> u32
-    requires { CanFindPlace s }
-    ensures { result ≡ free_buffer s }
-{
-    s.regs.txbc.dedicated() + free_place(s)
+    fifo_place(Circle {
+        ring: s.shared,
+        size: shared,
+    })
 }
 
 // A queue has no ring: its pending bits say all.
+#[tactic(auto, using(crate::proofs::Places::push_fits))]
 pub fn shared_after(s: State) -> Ring
     requires { SharedRoom s }
     ensures { result ≡ shared_after s }
@@ -60,5 +58,9 @@ pub fn shared_after(s: State) -> Ring
     if s.regs.is_queue() {
         return s.shared;
     }
-    ring::push(s.shared, s.regs.txbc.shared())
+    let q = Circle {
+        ring: s.shared,
+        size: s.regs.txbc.shared(),
+    };
+    q.push()
 }

@@ -1,13 +1,12 @@
 -- The choice: its candidates and ranks are the book's, and it tells the request's own form as sent.
 -- Assumes nothing.
-use Prim.Native.Nat.{ℕ, ◌+◌, ◌≤◌}
+use native.Mathlib.Omega.{arith}
+use Prim.Native.Nat.{ℕ, ◌≤◌}
 use mathlib.Core.Path.{◌≡◌, refl, sym, ap, ◌∙◌}
-use mathlib.Core.Bool.{Bool, true, false, not, ◌&&◌, ◌||◌, and-true}
+use mathlib.Core.Bool.{Bool, true, false, not, ◌||◌}
 use mathlib.Core.List.{List}
-use lib.Dec.{eqb, ltb, leb}
+use lib.Dec.{eqb}
 use lib.ListN.{length}
-use borrow.Author.Tests.{ltb-true, ltb-false, le-leb, lt-leb}
-use Rattle.words.specs.Choice.{pick}
 use Rattle.words.specs.Best.{Best, nobody, somebody, Wins}
 use Rattle.words.specs.Runs.{splice}
 use Rattle.words.proofs.Bests.{best_same, best_wins}
@@ -20,7 +19,6 @@ use Rattle.places.specs.Areas.{place_in}
 use Rattle.areas.specs.Areas.{tx_area, data_words}
 use Rattle.shape.specs.Calls.{answers}
 use Rattle.shape.specs.Histories.{Told}
-use Rattle.engine.specs.Buffers.{is_pending}
 use Rattle.engine.specs.Calls.{is_unfit, output_refusals}
 use Rattle.engine.specs.declared.state.State.{State}
 use Rattle.choosing.specs.Buffers.{header_of}
@@ -38,33 +36,11 @@ use Rattle.requests.proofs.Holding.{pending_is, reads_back}
 module _ (l : Book) (s : State) (mem : List ℕ) (a : TxAgrees s.regs l s mem) where
   pub candidate_told : (b : ℕ) → Choosing.is_candidate s b ≡ is_candidate s.regs l b
   unfolding Choosing.is_candidate is_candidate
-  candidate_told b = go (ltb b (dedicated s.regs)) refl (is_queue s.regs) refl
-    where
-      d : ℕ
-      d = dedicated s.regs
-
-      -- by whether the buffer is a shared one, and the shared part a queue
-      told_so : Bool → Bool → Bool
-      told_so t u = has_pending l b && (not (t && not u) || eqb (oldest_waiting (dedicated s.regs) l) b)
-
-      free : has_pending l b ≡ is_pending s b
-      free = pending_is s.regs l s mem a b
-
-      go : (t : Bool) → ltb b (dedicated s.regs) ≡ t → (u : Bool) → is_queue s.regs ≡ u
-          → pick t (is_pending s b)
-          (pick u (is_pending s b) (ltb 0 s.shared.fill && eqb b (dedicated s.regs + s.shared.oldest)))
-          ≡ (has_pending l b && (not (leb (dedicated s.regs) b && not u)
-          || eqb (oldest_waiting (dedicated s.regs) l) b))
-      go true e u f =
-          let n : leb d b ≡ false = lt-leb d b (ltb-true b d e) in
-          sym free ∙ sym (and-true (has_pending l b)) ∙ ap (λ (t : Bool). told_so t u) (sym n)
-      go false e true f =
-          let y : leb d b ≡ true = le-leb d b (ltb-false b d e) in
-          sym free ∙ sym (and-true (has_pending l b)) ∙ ap (λ (t : Bool). told_so t true) (sym y)
-      go false e false f =
-          let h : d ≤ b = ltb-false b d e in
-          oldest_first Request d (shared s.regs) l s.shared (a.fifo f) b h
-          ∙ ap (λ (t : Bool). told_so t false) (sym (le-leb d b h))
+  candidate_told b =
+      let d = dedicated s.regs in
+      let oldest = λ (f : is_queue s.regs ≡ false) (h : d ≤ b).
+      oldest_first Request d (shared s.regs) l s.shared (a.fifo f) b h in
+      grind (arith, pending_is s.regs l s mem a b, oldest)
 
   -- a candidate is pending
   candidate_pending : (b : ℕ) → is_candidate s.regs l b ≡ true → has_pending l b ≡ true

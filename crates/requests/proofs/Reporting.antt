@@ -7,7 +7,7 @@ use mathlib.Core.List.{[], ◌∷◌}
 use native.Mathlib.Omega.{arith}
 use lib.Dec.{leb}
 use lib.ListN.{length}
-use borrow.Author.Tests.{eq-eqb, leb-true, leb-false, lt-leb, not-false}
+use borrow.Author.Tests.{leb-true, leb-false, not-false}
 use Rattle.words.specs.Best.{Best, somebody}
 use Rattle.words.specs.Bits.{with_bit}
 use Rattle.words.specs.Ranges.{OnlyIn}
@@ -72,9 +72,7 @@ report_told l w i buffer passive time =
 -- where the buffer is the best, neither 23 nor 28 applies
 best_passes : (best : Best) (count buffer : ℕ) → buffer < count → best ≡ somebody buffer
     → first (23 when leb count buffer ∷ 28 when not (is_chosen best buffer) ∷ []) ≡ allowed
-best_passes best count buffer below e =
-    row_passes 23 (28 when not (is_chosen best buffer) ∷ []) (lt-leb count buffer below)
-    ∙ row_passes 28 [] (ap not (ap (λ (m : Best). is_chosen m buffer) e ∙ eq-eqb buffer buffer refl))
+best_passes best count buffer below e = grind arith
 
 pub report_accepted : ReportAccepted
 unfolding expect_report best_of

@@ -2,23 +2,23 @@
 -- Assumes nothing.
 use Prim.Native.Nat.{ℕ, ◌+◌, ◌%◌, ◌<◌}
 use mathlib.Core.Path.{◌≡◌, refl, sym, ap, ap₂, ◌∙◌}
-use mathlib.Core.Bool.{Bool, true, false, true≢false, not, ◌&&◌}
+use mathlib.Core.Bool.{Bool, true, false, not}
 use mathlib.Core.List.{List, [], ◌∷◌}
 use native.Mathlib.Omega.{arith}
 use lib.Dec.{ltb, leb}
 use lib.ListN.{length}
-use borrow.Author.Tests.{eqb-false, leb-false, not-true}
+use borrow.Author.Tests.{eqb-false, not-true}
 use Rattle.words.specs.Bits.{bit, is_set, with_bit, without_bit}
 use Rattle.words.specs.Choice.{pick}
 use Rattle.words.specs.Least.{least_from}
 use Rattle.words.specs.Rules.{first}
-use Rattle.words.proofs.Bits.{bit_lt}
+use Rattle.words.proofs.BitLaws.{bit_lt}
 use Rattle.words.proofs.Choices.{pick_first, pick_second}
 use Rattle.words.proofs.Lowest.{least_passes, least_same}
 use Rattle.words.proofs.Ranges.{only_none}
 use Rattle.ring.specs.Rings.{none_held, put_place, pushed}
 use Rattle.ring.specs.declared.Ring.{Ring}
-use Rattle.ring.proofs.Circle.{place_lt}
+use Rattle.ring.proofs.Places.{place_lt}
 use Rattle.ring.proofs.Holding.{put_not_held}
 use Rattle.frame.specs.Malformed.{malformed}
 use Rattle.frame.proofs.Forms.{well_formed}
@@ -234,7 +234,7 @@ cancel_leaves l w i buffer =
             (cancel_balances Request l i.agrees.balanced buffer) s.shared s.sent
             (with_bit s.cancelled buffer)
             (λ f. cancelled_before Request (dedicated g) (shared g) l s.shared (i.agrees.fifo f) buffer
-            (before (leb (dedicated g) buffer) refl (is_queue g) o.apart f))
+            (grind (arith, o.apart, f)))
             i.agrees.queue
             (cancel_sets_bit Request l s.sent s.cancelled i.agrees.bits i.agrees.balanced buffer
             (pending_is g l s w.memory i.agrees buffer ∙ o.pending));
@@ -243,10 +243,3 @@ cancel_leaves l w i buffer =
       };
       events = refl;
     })
-  where
-    -- in FIFO mode a buffer outside the FIFO is a dedicated one
-    before : (t : Bool) → leb (dedicated w.state.regs) buffer ≡ t → (u : Bool) → (t && not u) ≡ false → u ≡ false
-        → buffer < dedicated w.state.regs
-    before true e true n f = absurd (true≢false f)
-    before true e false n f = absurd (true≢false n)
-    before false e u n f = leb-false (dedicated w.state.regs) buffer e

@@ -1,7 +1,7 @@
 -- What fits a size: the test and the record say the same, and each move keeps it.
 -- Assumes nothing.
 use mathlib.Core.Path.{◌≡◌, sym, subst}
-use mathlib.Core.Bool.{true, ◌&&◌}
+use mathlib.Core.Bool.{true}
 use Prim.Native.Nat.{ℕ, ◌+◌, ◌^◌, ◌≤◌, ◌<◌, max}
 use native.Mathlib.Omega.{arith}
 use lib.Dec.{ltb, leb}
@@ -9,13 +9,8 @@ use borrow.Author.Tests.{ltb-true, leb-true, lt-ltb, le-leb}
 use Rattle.words.proofs.Choices.{and_both}
 use Rattle.ring.specs.Rings.{Fit, fits, none_held, pushed, overwritten, age, held, released_through, released}
 use Rattle.ring.specs.declared.Ring.{Ring}
-use Rattle.ring.proofs.Circle.{place_small, released_through_is}
+use Rattle.ring.proofs.Places.{place_small, released_through_is}
 use Rattle.ring.proofs.Holding.{held_inside, held_age}
-
--- the code's test, where n is the larger of 1 and the size
-pub fits_tested : (r : Ring) (size n : ℕ) → n ≡ max 1 size → (ltb r.oldest n && leb r.fill size) ≡ fits r size
-unfolding fits
-fits_tested r size n e = rw e
 
 pub fit_of_fits : (r : Ring) (size : ℕ) → size < 2 ^ 31 → fits r size ≡ true → Fit r size
 unfolding fits

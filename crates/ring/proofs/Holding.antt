@@ -10,7 +10,7 @@ use borrow.Author.Tests.{ltb-true, lt-ltb, le-ltb}
 use Rattle.words.proofs.Choices.{and_both}
 use Rattle.ring.specs.Rings.{Fit, place_after, put_place, age, held}
 use Rattle.ring.specs.declared.Ring.{Ring}
-use Rattle.ring.proofs.Circle.{place_lt, place_zero, age_place, age_lt, place_age}
+use Rattle.ring.proofs.Places.{place_lt, place_zero, age_place, age_lt, place_age}
 
 module _ (r : Ring) (size p : ℕ) where
   pub is_held : p < size → age r size p < r.fill → held r size p ≡ true
@@ -25,22 +25,13 @@ module _ (r : Ring) (size p : ℕ) where
   unfolding held
   held_age e = ltb-true (age r size p) r.fill (and_both (ltb p size) (ltb (age r size p) r.fill) e).1
 
-  -- no place past the size is held, and none as many places after the oldest as are held, or more
-  pub past_not_held : size ≤ p → held r size p ≡ false
-  unfolding held
-  past_not_held h = rw (le-ltb p size h)
-
+  -- no place is held that is as many places after the oldest as are held, or more
   pub free_not_held : r.fill ≤ age r size p → held r size p ≡ false
   unfolding held
   free_not_held h = rw (le-ltb (age r size p) r.fill h, and-false)
 
   pub empty_not_held : r.fill ≡ 0 → held r size p ≡ false
   empty_not_held e = free_not_held (omega arith)
-
-  -- the code's test, where n is the place's age
-  pub held_tested : (n : ℕ) → p < size → n ≡ age r size p → ltb n r.fill ≡ held r size p
-  unfolding held
-  held_tested n h e = rw (e, lt-ltb p size h)
 
 -- two tests that each pass where the other does are the same
 pub same_test : (a b : Bool) → (a ≡ true → b ≡ true) → (b ≡ true → a ≡ true) → a ≡ b
@@ -69,7 +60,5 @@ module _ (r : Ring) (size : ℕ) (fit : Fit r size) where
 
   -- a full ring holds every place
   pub full_held : r.fill ≡ size → (q : ℕ) → held r size q ≡ ltb q size
-  full_held e q =
-      same_test (held r size q) (ltb q size)
-      (λ t. lt-ltb q size (held_inside r size q t))
-      (λ t. let h = ltb-true q size t in is_held r size q h (omega (arith, age_lt r size q (omega arith))))
+  unfolding held
+  full_held e q = grind (arith, age_lt r size q)

@@ -1,4 +1,4 @@
-pub mod Circle
+pub mod Places
 pub mod Holding
 pub mod Fitness
 pub mod Moves

@@ -11,105 +11,106 @@ pub struct Ring {
     pub fill: u32,
 }
 
-// Nothing is held.
-pub fn empty() -> Ring
-    ensures { result ≡ none_held }
-{
-    Ring { oldest: 0, fill: 0 }
-}
+impl Ring {
+    // Nothing is held.
+    pub fn empty() -> Self
+        ensures { result ≡ none_held }
+    {
+        Ring { oldest: 0, fill: 0 }
+    }
 
-fn at_least_one(size: u32) -> u32
-    ensures { result ≡ max 1 size }
-{
-    if size == 0 { 1 } else { size }
-}
-
-// Whether a ring can be one of this size.
-pub fn fits(r: Ring, size: u32) -> bool
-    ensures { result ≡ fits r size }
-{
-    (r.oldest < at_least_one(size)) & (r.fill <= size)
-}
-
-// A number below two turns, brought into the circle without a division.
-fn in_circle(n: u32, size: u32) -> u32
-    requires { n < max 1 size + size }
-    ensures { (result ≡ n % size) × (result < max 1 size) }
-{
-    if n < size { n } else { n - size }
-}
-
-// The place n places after the oldest.
-pub fn place_after(r: Ring, size: u32, n: u32) -> u32
-    requires fit { Fit r size }
-    requires n_le_size { n ≤ size }
-    ensures { (result ≡ place_after r size n) × (result < max 1 size) }
-{
-    in_circle(r.oldest + n, size)
-}
-
-// Where the next one goes.
-pub fn put_place(r: Ring, size: u32) -> u32
-    requires { Fit r size }
-    ensures { (result ≡ put_place r size) × (result < max 1 size) }
-{
-    place_after(r, size, r.fill)
-}
-
-// One more, at the put place.
-pub fn push(r: Ring, size: u32) -> Ring
-    requires fit { Fit r size }
-    requires fill_lt_size { r.fill < size }
-    ensures { result ≡ pushed r }
-{
-    Ring {
-        oldest: r.oldest,
-        fill: r.fill + 1,
+    // Whether a ring can be one of this size.
+    #[tactic(auto, unfolding(crate::specs::Rings::fits))]
+    pub fn fits(self, size: u32) -> bool
+        ensures { result ≡ fits self size }
+    {
+        self.oldest < size.max(1) && self.fill <= size
     }
 }
 
-// The oldest of a full ring gives way to a new one.
-pub fn overwrite(r: Ring, size: u32) -> Ring
-    requires fit { Fit r size }
-    requires size_nonzero { 0 < size }
-    requires fill_value { r.fill ≡ size }
-    ensures { result ≡ overwritten r size }
-{
-    Ring {
-        oldest: place_after(r, size, 1),
-        fill: r.fill,
+// A ring of a size that it can have.
+#[derive(Clone, Copy)]
+pub struct Circle {
+    pub ring: Ring,
+    pub size: u32,
+    pub ghost fit: { Fit ring size },
+}
+
+impl Circle {
+    // A number below two turns, brought into the circle without a division.
+    fn in_circle(self, n: u32) -> u32
+        requires { n < max 1 self.size + self.size }
+        ensures { (result ≡ n % self.size) × (result < max 1 self.size) }
+    {
+        if n < self.size { n } else { n - self.size }
     }
-}
 
-// How many places after the oldest a place is.
-pub fn age_of(r: Ring, size: u32, p: u32) -> u32
-    requires fit { Fit r size }
-    requires p_lt_size { p < size }
-    ensures { (result ≡ age r size p) × (result < size) }
-{
-    in_circle(p + size - r.oldest, size)
-}
-
-// Whether a place is held: none past the size is.
-pub fn is_held(r: Ring, size: u32, p: u32) -> bool
-    requires { Fit r size }
-    ensures { result ≡ held r size p }
-{
-    if size <= p {
-        return false;
+    // The place n places after the oldest.
+    #[tactic(auto, unfolding(crate::specs::Rings::place_after))]
+    pub fn place_after(self, n: u32) -> u32
+        requires { n ≤ self.size }
+        ensures { (result ≡ place_after self.ring self.size n) × (result < max 1 self.size) }
+    {
+        self.in_circle(self.ring.oldest + n)
     }
-    age_of(r, size, p) < r.fill
-}
 
-// All held up to and including a place are given up.
-pub fn release_through(r: Ring, size: u32, p: u32) -> Ring
-    requires fit { Fit r size }
-    requires p_value { held r size p ≡ true }
-    ensures { result ≡ released_through r size p }
-{
-    let n = age_of(r, size, p) + 1;
-    Ring {
-        oldest: in_circle(p + 1, size),
-        fill: r.fill - n,
+    // Where the next one goes.
+    pub fn put_place(self) -> u32
+        ensures { (result ≡ put_place self.ring self.size) × (result < max 1 self.size) }
+    {
+        self.place_after(self.ring.fill)
+    }
+
+    // One more, at the put place.
+    pub fn push(self) -> Ring
+        requires { self.ring.fill < self.size }
+        ensures { result ≡ pushed self.ring }
+    {
+        Ring {
+            fill: self.ring.fill + 1,
+            ..self.ring
+        }
+    }
+
+    // The oldest of a full ring gives way to a new one.
+    pub fn overwrite(self) -> Ring
+        requires size_nonzero { 0 < self.size }
+        requires fill_value { self.ring.fill ≡ self.size }
+        ensures { result ≡ overwritten self.ring self.size }
+    {
+        Ring {
+            oldest: self.place_after(1),
+            ..self.ring
+        }
+    }
+
+    // How many places after the oldest a place is.
+    #[tactic(auto, unfolding(crate::specs::Rings::age))]
+    pub fn age_of(self, p: u32) -> u32
+        requires { p < self.size }
+        ensures { (result ≡ age self.ring self.size p) × (result < self.size) }
+    {
+        self.in_circle(p + self.size - self.ring.oldest)
+    }
+
+    // Whether a place is held: none past the size is.
+    #[tactic(auto, unfolding(crate::specs::Rings::held))]
+    pub fn is_held(self, p: u32) -> bool
+        ensures { result ≡ held self.ring self.size p }
+    {
+        p < self.size && self.age_of(p) < self.ring.fill
+    }
+
+    // All held up to and including a place are given up.
+    #[tactic(auto, using(crate::proofs::Holding::held_inside, crate::proofs::Holding::held_age))]
+    pub fn release_through(self, p: u32) -> Ring
+        requires { held self.ring self.size p ≡ true }
+        ensures { result ≡ released_through self.ring self.size p }
+    {
+        let n = self.age_of(p) + 1;
+        Ring {
+            oldest: self.in_circle(p + 1),
+            fill: self.ring.fill - n,
+        }
     }
 }

@@ -11,7 +11,7 @@ use lib.ListN.{length}
 use Rattle.words.specs.Bits.{without_bit}
 use Rattle.words.specs.Choice.{pick}
 use Rattle.words.specs.Rules.{allowed, first}
-use Rattle.words.proofs.Bits.{cleared_le}
+use Rattle.words.proofs.BitLaws.{cleared_le}
 use Rattle.ring.specs.Rings.{released_through}
 use Rattle.ring.specs.declared.Ring.{Ring}
 use Rattle.ring.proofs.Fitness.{fit_released_through}

@@ -1,5 +1,7 @@
 -- The cases of what is judged, one law each, and what is known where nothing is against a call.
 -- Assumes nothing.
+use Rattle.std.proofs.Common.{Result, Ok, Err}
+use Rattle.engine.specs.declared.refusals.Refusal.{Refusal}
 use Prim.Native.Nat.{ℕ, ◌≤◌, ◌<◌}
 use mathlib.Core.Path.{◌≡◌, sym, ap, ap₂, ◌∙◌}
 use mathlib.Core.Bool.{Bool, true, false}
@@ -22,79 +24,26 @@ use Rattle.registers.specs.declared.kinds.Rxfc.{Rxfc}
 use Rattle.layout.specs.Verdict.{plain}
 use Rattle.areas.specs.Areas.{fifo_area, buffer_area}
 use Rattle.areas.proofs.Rooms.{fifo_roomy, buffer_roomy}
-use Rattle.engine.specs.Answers.{ruled}
-use Rattle.engine.specs.Calls.{World, world, is_unfit}
+use Rattle.engine.specs.Calls.{World, world, ◌when◌, is_unfit, output_refusals}
 use Rattle.engine.specs.Fitness.{unfit}
-use Rattle.engine.specs.Holding.{place_refusals}
 use Rattle.engine.specs.Needs.{HoldsPlace}
 use Rattle.engine.specs.States.{fifo_ring}
-use Rattle.engine.specs.declared.refusals.Judged.{Judged}
-use Rattle.engine.specs.declared.refusals.Judged.TheVariants.{Allowed, Refused}
 use Rattle.engine.specs.declared.refusals.Refusal.TheVariants.{Unfit, NoSuch, NotHeld}
 use Rattle.engine.specs.declared.state.State.{State}
 use Rattle.engine.specs.declared.state.Record.{Record}
-use Rattle.engine.proofs.Sounds.{sound_of, ring_fits}
+use Rattle.engine.proofs.Sounds.{sound_of, found_sound, ring_fits}
+use Rattle.engine.proofs.Calls.{output_fits}
+use Rattle.taking.specs.Needs.{CanRead}
 use Rattle.taking.specs.Places.{no_place, place_free, no_rx_buffer, buffer_free, fifo_refusals, buffer_refusals}
 
 -- ---- what the code finds
 
-module _ (s : State) (r : Record) (mem : List ℕ) (b : Bool) (e : b ≡ unfit s r (length mem)) where
-  module _ (fifo place : ℕ) where
-    abbrev Finds : Judged → Type 0
-    Finds j = ruled j ≡ first (fifo_refusals (world s r mem) fifo place)
+module _ (s : State) (r : Record) (words : ℕ) (e : allowed ≡ 20 when unfit s r words) where
+  pub ring_tested : (fifo : ℕ) → Fit (fifo_ring s fifo) (fifo_size s.regs fifo)
+  ring_tested fifo = ring_fits s words fifo (found_sound s r words e)
 
-    pub fifo_unfit : b ≡ true → Finds (Refused Unfit)
-    unfolding fifo_refusals
-    fifo_unfit y = simp (← e, y)
-
-    module _ (z : b ≡ false) where
-      pub fifo_none : 1 < fifo → Finds (Refused NoSuch)
-      unfolding fifo_refusals
-      fifo_none h = simp (← e, z, lt-ltb _ _ h)
-
-      module _ (q : Ring) (w : Rxfc) (n : ℕ) (a : q ≡ fifo_ring s fifo) (c : w.word ≡ fifo_word s.regs fifo)
-          (d : n ≡ field rxfc_count w.word) where
-        size_is : n ≡ fifo_size s.regs fifo
-        size_is = d ∙ ap (field rxfc_count) c
-
-        pub ring_tested : Fit q n
-        ring_tested = rw (a, size_is) (ring_fits s (length mem) fifo (sound_of s r (length mem) (sym e ∙ z)))
-
-        pub fifo_rest : fifo ≤ 1 → (j : Judged) → ruled j ≡ first (place_refusals q n place) → Finds j
-        unfolding fifo_refusals place_refusals
-        fifo_rest h j t =
-            t
-            ∙ ap₂ (λ (x : Ring) (k : ℕ). first (place_refusals x k place)) a size_is
-            ∙ sym (simp (← e, z, le-ltb _ _ h))
-
-  module _ (buffer : ℕ) where
-    abbrev FindsIn : Judged → Type 0
-    FindsIn j = ruled j ≡ first (buffer_refusals (world s r mem) buffer)
-
-    pub buffer_unfit : b ≡ true → FindsIn (Refused Unfit)
-    unfolding buffer_refusals
-    buffer_unfit y = simp (← e, y)
-
-    module _ (z : b ≡ false) where
-      pub bit_inside : buffer < buffers s.regs → buffer < 64
-      bit_inside h = omega (arith, (sound_of s r (length mem) (sym e ∙ z)).legal.counted.buffers)
-
-      pub buffer_none : buffers s.regs ≤ buffer → FindsIn (Refused NoSuch)
-      unfolding buffer_refusals
-      buffer_none h = simp (← e, z, le-leb _ _ h)
-
-      module _ (h : buffer < buffers s.regs) (f : Bool) (t : f ≡ is_set s.newdata buffer) where
-        pub buffer_held : f ≡ true → FindsIn Allowed
-        unfolding buffer_refusals
-        buffer_held y = simp (← e, z, lt-leb _ _ h, ← t, y)
-
-        pub buffer_is_free : f ≡ false → FindsIn (Refused NotHeld)
-        unfolding buffer_refusals
-        buffer_is_free y = simp (← e, z, lt-leb _ _ h, ← t, y)
-
-pub ruleset fifos = (fifo_unfit, fifo_none, fifo_rest)
-
-pub ruleset rx-buffers = (buffer_unfit, buffer_none, buffer_held, buffer_is_free)
+  pub bit_inside : (buffer : ℕ) → buffer < buffers s.regs → buffer < 64
+  bit_inside buffer h = omega (arith, (found_sound s r words e).legal.counted.buffers)
 
 -- ---- what is known where nothing is against a call
 
@@ -148,13 +97,31 @@ buffer_open w buffer e =
       element = record { room = buffer_roomy w.state.regs words sound.legal; within = number };
     }
 
--- ---- the same, of what was judged
+-- ---- the same, where nothing was found
 
-module _ (s : State) (r : Record) (mem : List ℕ) (j : Judged) (y : j ≡ Allowed) where
-  pub holds_place : (fifo place : ℕ) → ruled j ≡ first (fifo_refusals (world s r mem) fifo place)
-      → HoldsPlace (fifo_ring s fifo) (fifo_size s.regs fifo) place
-  holds_place fifo place e = (fifo_open (world s r mem) fifo place (sym e ∙ ap ruled y)).holds
+module _ (s : State) (r : Record) (mem : List ℕ) where
+  module _ (fifo place : ℕ) (e : allowed ≡ first (fifo_refusals (world s r mem) fifo place)) where
+    pub holds_place : HoldsPlace (fifo_ring s fifo) (fifo_size s.regs fifo) place
+    holds_place = (fifo_open (world s r mem) fifo place (sym e)).holds
 
-  pub buffer_small : (buffer : ℕ) → ruled j ≡ first (buffer_refusals (world s r mem) buffer) → buffer < 64
-  buffer_small buffer e =
-      let o = buffer_open (world s r mem) buffer (sym e ∙ ap ruled y) in omega (arith, o.few, o.number)
+    pub can_read_place : (out : List ℕ) → allowed ≡ first (output_refusals (length out))
+        → CanRead mem (fifo_area s.regs fifo) place out
+    can_read_place out o = record {
+      element = (fifo_open (world s r mem) fifo place (sym e)).element;
+      output = output_fits (length out) (sym o);
+    }
+
+  module _ (buffer : ℕ) (e : allowed ≡ first (buffer_refusals (world s r mem) buffer)) where
+    pub buffer_few : buffers s.regs ≤ 64
+    buffer_few = (buffer_open (world s r mem) buffer (sym e)).few
+
+    pub buffer_small : buffer < 64
+    buffer_small =
+        let o = buffer_open (world s r mem) buffer (sym e) in omega (arith, o.few, o.number)
+
+    pub can_read_buffer : (out : List ℕ) → allowed ≡ first (output_refusals (length out))
+        → CanRead mem (buffer_area s.regs) buffer out
+    can_read_buffer out o = record {
+      element = (buffer_open (world s r mem) buffer (sym e)).element;
+      output = output_fits (length out) (sym o);
+    }

@@ -1,5 +1,3 @@
 pub mod Judgements
-pub mod Calls
-pub mod Answers
 pub mod Fits
 pub mod OwnElement

@@ -1,22 +1,14 @@
 -- Calls 3 and 5, read in a FIFO and read an Rx buffer.
 use Rattle.std.specs.Prelude.{ℕ, List, ◌++◌, length}
 use Rattle.words.specs.Runs.{splice}
-use Rattle.shape.specs.Calls.{Says, refuses, answers, effect, call}
+use Rattle.shape.specs.Calls.{effect, call}
 use Rattle.places.specs.Areas.{place_in}
 use Rattle.places.specs.declared.Area.{Area}
 use Rattle.element.specs.Bytes.{rx_read, read_bytes}
 use Rattle.element.specs.declared.RxRead.{RxRead}
 use Rattle.areas.specs.Areas.{fifo_area, buffer_area, data_words}
-use Rattle.engine.specs.Answers.{told}
 use Rattle.engine.specs.Calls.{World, Outcome, Effect, output_refusals}
 use Rattle.taking.specs.Places.{fifo_refusals, buffer_refusals}
-use Rattle.taking.specs.declared.reading.ReadAnswer.{ReadAnswer}
-use Rattle.taking.specs.declared.reading.ReadAnswer.TheVariants.{Read, Refused}
-
--- what the code answers
-abbrev pub meaning : ReadAnswer → Says RxRead
-meaning (Read h) = answers h
-meaning (Refused n) = refuses (told n)
 
 -- the element at a place: min(frame, element) bytes go to the front of the output, and the rest stays
 unfoldable pub reads : World → Area → ℕ → List ℕ → Effect RxRead

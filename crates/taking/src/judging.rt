@@ -5,37 +5,41 @@ ghost use Rattle.engine.specs.Answers.{ruled};
 ghost use Rattle.engine.specs.Calls.{world};
 ghost use Rattle.taking.specs.Places.{fifo_refusals, buffer_refusals};
 
-use engine::fitness::is_unfit;
+use engine::fitness::judge_fit;
 use engine::holding::judge_held;
-use engine::refusals::{Judged, Refusal};
+use engine::refusals::Refusal;
 use engine::state::{Record, State};
-use words::bits64;
+use words::bits;
 
 // Calls 3 and 4, but for 30.
-pub fn judge_fifo(s: State, recorded: Record, mem: &[u32], fifo: u32, place: u32) -> Judged
+#[tactic(auto, using(crate::proofs::Judgements::ring_tested), unfolding(crate::specs::Places::fifo_refusals, engine::specs::Holding::place_refusals))]
+pub fn judge_fifo(
+    s: State,
+    recorded: Record,
+    mem: &[u32],
+    fifo: u32,
+    place: u32,
+) -> Result<(), Refusal>
     ensures { ruled result ≡ first (fifo_refusals (world s recorded mem.now) fifo place) }
 {
-    if is_unfit(s, recorded, mem.len()) {
-        return Judged::Refused(Refusal::Unfit);
-    }
+    judge_fit(s, recorded, mem.len())?;
     if 1 < fifo {
-        return Judged::Refused(Refusal::NoSuch);
+        return Err(Refusal::NoSuch);
     }
-    judge_held(s.fifo_ring(fifo), s.regs.fifo(fifo).count(), place)
+    judge_held(s.fifo_circle(fifo), place)
 }
 
 // Calls 5 and 6, but for 30.
-pub fn judge_buffer(s: State, recorded: Record, mem: &[u32], buffer: u32) -> Judged
+#[tactic(auto, using(crate::proofs::Judgements::bit_inside), unfolding(crate::specs::Places::buffer_refusals))]
+pub fn judge_buffer(s: State, recorded: Record, mem: &[u32], buffer: u32) -> Result<(), Refusal>
     ensures { ruled result ≡ first (buffer_refusals (world s recorded mem.now) buffer) }
 {
-    if is_unfit(s, recorded, mem.len()) {
-        return Judged::Refused(Refusal::Unfit);
-    }
+    judge_fit(s, recorded, mem.len())?;
     if s.regs.buffers <= buffer {
-        return Judged::Refused(Refusal::NoSuch);
+        return Err(Refusal::NoSuch);
     }
-    if bits64::test(s.newdata, buffer) {
-        return Judged::Allowed;
+    if !bits::test(s.newdata, buffer) {
+        return Err(Refusal::NotHeld);
     }
-    Judged::Refused(Refusal::NotHeld)
+    Ok(())
 }

@@ -5,23 +5,18 @@ ghost use Rattle.shape.specs.Calls.{outcome};
 ghost use Rattle.places.specs.Areas.{place_in};
 ghost use Rattle.element.specs.Bytes.{rx_read, read_bytes};
 ghost use Rattle.areas.specs.Areas.{data_words};
+ghost use Rattle.engine.specs.Answers.{saying};
 ghost use Rattle.engine.specs.Calls.{world};
 ghost use Rattle.taking.specs.Needs.{CanRead};
-ghost use Rattle.taking.specs.Reading.{meaning, read_fifo, read_buffer};
+ghost use Rattle.taking.specs.Reading.{read_fifo, read_buffer};
 
 use crate::judging::{judge_buffer, judge_fifo};
 use areas::{buffer_area, data_words, fifo_area};
 use element::RxRead;
-use element::memory::read_rx;
-use engine::refusals::{Judged, Refusal, judge_output};
+use element::memory::Element;
+use engine::refusals::{Refusal, judge_output};
 use engine::state::{Record, State};
-use places::{Area, place_in};
-
-#[derive(Clone, Copy)]
-pub enum ReadAnswer {
-    Read(RxRead),
-    Refused(Refusal),
-}
+use places::Area;
 
 // Reads the element at a place.
 fn read_in(mem: &[u32], a: Area, place: u32, out: &mut [u8]) -> RxRead
@@ -30,10 +25,15 @@ fn read_in(mem: &[u32], a: Area, place: u32, out: &mut [u8]) -> RxRead
         × (out.new
         ≡ splice out.old 0 (read_bytes mem.now (place_in a place) (data_words a))) }
 {
-    read_rx(mem, place_in(a, place, mem.len()), data_words(a), out)
+    let element = Element {
+        at: a.place_in(place, mem.len()),
+        words: data_words(a),
+    };
+    element.read_rx(mem, out)
 }
 
 // Reads the element at a held place of a FIFO.
+#[tactic(auto, using(crate::proofs::Judgements::can_read_place, shape::proofs::Calls::rows_then), unfolding(shape::specs::Calls::call, crate::specs::Reading::reads))]
 pub fn read_fifo(
     s: State,
     recorded: Record,
@@ -41,29 +41,28 @@ pub fn read_fifo(
     fifo: u32,
     place: u32,
     out: &mut [u8],
-) -> ReadAnswer
-    ensures { outcome (meaning result) (world s recorded mem.now) out.new
+) -> Result<RxRead, Refusal>
+    ensures { outcome (saying (λ h. h) result) (world s recorded mem.now) out.new
         ≡ read_fifo (world s recorded mem.now) fifo place out.old }
 {
-    match judge_output(judge_fifo(s, recorded, mem, fifo, place), out.len()) {
-        Judged::Refused(n) => ReadAnswer::Refused(n),
-        Judged::Allowed => ReadAnswer::Read(read_in(mem, fifo_area(s.regs, fifo), place, out)),
-    }
+    judge_fifo(s, recorded, mem, fifo, place)?;
+    judge_output(out.len())?;
+    Ok(read_in(mem, fifo_area(s.regs, fifo), place, out))
 }
 
 // Reads an Rx buffer that holds new data.
+#[tactic(auto, using(crate::proofs::Judgements::can_read_buffer, crate::proofs::Judgements::buffer_few, shape::proofs::Calls::rows_then), unfolding(shape::specs::Calls::call, crate::specs::Reading::reads))]
 pub fn read_buffer(
     s: State,
     recorded: Record,
     mem: &[u32],
     buffer: u32,
     out: &mut [u8],
-) -> ReadAnswer
-    ensures { outcome (meaning result) (world s recorded mem.now) out.new
+) -> Result<RxRead, Refusal>
+    ensures { outcome (saying (λ h. h) result) (world s recorded mem.now) out.new
         ≡ read_buffer (world s recorded mem.now) buffer out.old }
 {
-    match judge_output(judge_buffer(s, recorded, mem, buffer), out.len()) {
-        Judged::Refused(n) => ReadAnswer::Refused(n),
-        Judged::Allowed => ReadAnswer::Read(read_in(mem, buffer_area(s.regs), buffer, out)),
-    }
+    judge_buffer(s, recorded, mem, buffer)?;
+    judge_output(out.len())?;
+    Ok(read_in(mem, buffer_area(s.regs), buffer, out))
 }

@@ -8,7 +8,7 @@ use native.Mathlib.Omega.{arith}
 use lib.Count.{ones, ones_step}
 use Rattle.words.specs.Choice.{pick}
 use Rattle.words.specs.Bits.{is_set, how_many}
-use Rattle.words.proofs.Bits.{bit_zero, bit_suc}
+use Rattle.words.proofs.BitLaws.{bit_zero, bit_suc}
 
 -- counted from the lowest bit on
 up : (p : ℕ → Bool) (n : ℕ) → how_many p (suc n) ≡ pick (p 0) 1 0 + how_many (λ k. p (suc k)) n

@@ -3,7 +3,7 @@ pub mod Tables
 pub mod Rulings
 pub mod Lowest
 pub mod Bests
-pub mod Bits
+pub mod BitLaws
 pub mod Counting
 pub mod Unnamed
 pub mod Runs

@@ -39,6 +39,14 @@ run_alike f g j k n same =
     let h : i < n = omega (arith, length_run f j n) in
     get_or_run f j n i h ∙ same i h ∙ sym (get_or_run g k n i h))
 
+-- a list that has the values at its places
+pub filled : (f : ℕ → ℕ) (l : List ℕ) (n : ℕ) → length l ≡ n → ((i : ℕ) → i < n → get_or l i 0 ≡ f i) → l ≡ run f 0 n
+filled f l n e at =
+    ext_get_or 0 l (run f 0 n) (e ∙ sym (length_run f 0 n))
+    (λ i h.
+    let b : i < n = omega arith in
+    at i b ∙ ap f (sym (zero-add i)) ∙ sym (get_or_run f 0 n i b))
+
 module _ (l : List ℕ) (at : ℕ) where
   pub splice_none : l ≡ splice l at []
   unfolding splice
@@ -185,15 +193,3 @@ pub front_rest : (f : ℕ → ℕ) (l m last : List ℕ) (k n q : ℕ) → m ≡
 front_rest f l m last k n q so e next h =
     run_rest f l m last 0 k so n q e
     (next ∙ ap (λ (x : ℕ). splice m x (run (λ i. f (k + i)) 0 (n - k))) (sym (zero-add k))) (omega arith)
-
--- four stores of neighbours
-pub four_stored : (f : ℕ → ℕ) (l : List ℕ) (at a b c d : ℕ) → at + 4 ≤ length l → a ≡ f 0 → b ≡ f 1 → c ≡ f 2 → d ≡ f 3
-    → set (set (set (set l at a) (at + 1) b) (at + 2) c) (at + 3) d ≡ splice l at (run f 0 4)
-unfolding run
-four_stored f l at a b c d h p q r s =
-    ap (λ (x : List ℕ). set (set (set x (at + 1) b) (at + 2) c) (at + 3) d)
-    (splice_none (set l at a) (at + 1) ∙ splice_cons l at a [] (omega arith))
-    ∙ ap (λ (x : List ℕ). set (set x (at + 2) c) (at + 3) d) (splice_snoc l at (a ∷ []) b (omega arith))
-    ∙ ap (λ (x : List ℕ). set x (at + 3) d) (splice_snoc l at (a ∷ b ∷ []) c (omega arith))
-    ∙ splice_snoc l at (a ∷ b ∷ c ∷ []) d (omega arith)
-    ∙ cc

@@ -14,7 +14,7 @@ use lib.Dec.{T, eqb, ltb, leb, lit<}
 use lib.Pow.{pow_mono}
 use Rattle.words.specs.Fields.{mask_of, in_field, RestZero}
 use Rattle.words.specs.Bits.{bit}
-use Rattle.words.proofs.Bits.{bit_suc, bit_of_and}
+use Rattle.words.proofs.BitLaws.{bit_suc, bit_of_and}
 use Rattle.words.proofs.Choices.{and_left, and_right, T_true}
 
 low_bit : (x y : ℕ) → x < 2 → (y ≡ 0 → x ≡ 0) → min x y ≡ x

@@ -5,21 +5,15 @@ ghost use Rattle.words.specs.Runs.{run, splice};
 
 use crate::WordAddress;
 
-// A byte as a word.
-fn wide(byte: u8) -> u32
-    ensures { (result ≡ byte) × (result < 256) }
-{
-    byte as u32
-}
-
 // Byte i of the data, 0 past its end.
-fn byte_at(bytes: &[u8], i: usize) -> u32
-    ensures { (result ≡ get_or bytes.now i 0) × (result < 256) }
+fn byte_at(bytes: &[u8], i: usize) -> u8
+    ensures { result ≡ get_or bytes.now i 0 }
 {
-    if i < bytes.len() { wide(bytes[i]) } else { 0 }
+    if i < bytes.len() { bytes[i] } else { 0 }
 }
 
 // Word k of the data.
+#[tactic(auto, using(crate::proofs::Moves::word_past), unfolding(crate::specs::Bytes::word_of))]
 fn word_of(bytes: &[u8], k: usize) -> u32
     requires { k < 2 ^ 32 }
     ensures { result ≡ word_of bytes.now k }
@@ -28,54 +22,44 @@ fn word_of(bytes: &[u8], k: usize) -> u32
     if bytes.len() <= i {
         return 0;
     }
-    byte_at(bytes, i)
-        + byte_at(bytes, i + 1) * 0x100
-        + byte_at(bytes, i + 2) * 0x1_0000
-        + byte_at(bytes, i + 3) * 0x100_0000
+    u32::from_le_bytes([
+        byte_at(bytes, i),
+        byte_at(bytes, i + 1),
+        byte_at(bytes, i + 2),
+        byte_at(bytes, i + 3),
+    ])
 }
 
-// The same where all its four bytes are there.
+// The same where all its four bytes are there: no test of each.
+#[tactic(auto, unfolding(crate::specs::Bytes::word_of))]
 fn whole_word(bytes: &[u8], k: usize) -> u32
     requires { 4 * k + 4 ≤ length bytes.now }
     ensures { result ≡ word_of bytes.now k }
 {
     let i = 4 * k;
-    wide(bytes[i])
-        + wide(bytes[i + 1]) * 0x100
-        + wide(bytes[i + 2]) * 0x1_0000
-        + wide(bytes[i + 3]) * 0x100_0000
+    u32::from_le_bytes([bytes[i], bytes[i + 1], bytes[i + 2], bytes[i + 3]])
 }
 
-// Writes the first n words of the data, which has them whole, from a word on.
-fn store_whole(mem: &mut [u32], start: usize, n: usize, bytes: &[u8])
-    requires { (start + n ≤ length mem.old) × (4 * n ≤ length bytes.now) }
-    ensures { mem.new ≡ splice mem.old start (run (word_of bytes.now) 0 n) }
+// Fills words with the first of the data, which has all their bytes.
+#[tactic(auto, using(crate::proofs::Runs::filled))]
+fn fill_whole(words: &mut [u32], bytes: &[u8])
+    requires { 4 * length words.old ≤ length bytes.now }
+    ensures { words.new ≡ run (word_of bytes.now) 0 (length words.old) }
 {
-    let mut k = 0;
-    while k < n {
-        mem[start + k] = whole_word(bytes, k);
-        k += 1;
+    for (k, word) in words.iter_mut().enumerate() {
+        *word = whole_word(bytes, k);
     }
 }
 
-// Writes n words of the data, from word first of it, from a word on.
-fn store_rest(mem: &mut [u32], start: usize, first: usize, n: usize, bytes: &[u8])
-    requires { (start + n ≤ length mem.old) × (first + n < 2 ^ 32) }
-    ensures { mem.new
-        ≡ splice mem.old start (run (λ i. word_of bytes.now (first + i)) 0 n) }
+// Fills words with those of the data from word first of it on.
+#[tactic(auto, using(crate::proofs::Runs::filled))]
+fn fill_rest(words: &mut [u32], first: usize, bytes: &[u8])
+    requires { first + length words.old < 2 ^ 32 }
+    ensures { words.new ≡ run (λ i. word_of bytes.now (first + i)) 0 (length words.old) }
 {
-    let mut k = 0;
-    while k < n {
-        mem[start + k] = word_of(bytes, first + k);
-        k += 1;
+    for (k, word) in words.iter_mut().enumerate() {
+        *word = word_of(bytes, first + k);
     }
-}
-
-// The smaller of two counts.
-pub fn smaller(a: usize, b: usize) -> usize
-    ensures { result ≡ min a b }
-{
-    if a < b { a } else { b }
 }
 
 // Writes the first n words of the data from a word on: a byte that is not there is 0, and those past them are dropped.
@@ -84,9 +68,9 @@ pub fn store(mem: &mut [u32], at: WordAddress, n: usize, bytes: &[u8])
     ensures { mem.new ≡ splice mem.old at.0 (run (word_of bytes.now) 0 n) }
 {
     let start = at.0 as usize;
-    let whole = smaller(n, bytes.len() / 4);
-    store_whole(mem, start, whole, bytes);
-    store_rest(mem, start + whole, whole, n - whole, bytes)
+    let whole = n.min(bytes.len() / 4);
+    fill_whole(&mut mem[start..start + whole], bytes);
+    fill_rest(&mut mem[start + whole..start + n], whole, bytes)
 }
 
 // Byte j of a word.
@@ -102,36 +86,27 @@ fn put_bytes(out: &mut [u8], i: usize, word: u32)
     requires { i + 4 ≤ length out.old }
     ensures { out.new ≡ splice out.old i (run (byte_of word) 0 4) }
 {
-    out[i] = byte_of(word, 0);
-    out[i + 1] = byte_of(word, 1);
-    out[i + 2] = byte_of(word, 2);
-    out[i + 3] = byte_of(word, 3);
+    out[i..i + 4].copy_from_slice(&word.to_le_bytes());
 }
 
-// Writes the bytes of the first n words from a word on to the front of out.
-fn load_whole(mem: &[u32], start: usize, n: usize, out: &mut [u8])
-    requires { (4 * n ≤ length out.old) × (start + n ≤ length mem.now) }
-    ensures { out.new ≡ splice out.old 0 (run (byte_in mem.now start) 0 (4 * n)) }
+// Writes the bytes of the words to the front of out.
+fn put_words(words: &[u32], out: &mut [u8])
+    requires { 4 * length words.now ≤ length out.old }
+    ensures { out.new ≡ splice out.old 0 (run (byte_in words.now 0) 0 (4 * length words.now)) }
 {
-    let mut k = 0;
-    while k < n {
-        put_bytes(out, 4 * k, mem[start + k]);
-        k += 1;
+    for (k, word) in words.iter().enumerate() {
+        put_bytes(out, 4 * k, *word);
     }
 }
 
-// Writes n bytes of the words from a word on, from byte first of them, to their places in out.
-fn load_rest(mem: &[u32], start: usize, first: usize, n: usize, out: &mut [u8])
-    requires { (first + n ≤ length out.old) × (start + (first + n + 3) / 4 ≤ length mem.now) }
-    ensures { out.new
-        ≡ splice out.old first (run (λ i. byte_in mem.now start (first + i)) 0 n) }
+// Fills out with the first bytes of the words.
+#[tactic(auto, using(crate::proofs::Runs::filled))]
+fn fill_bytes(out: &mut [u8], words: &[u32])
+    requires { (length out.old + 3) / 4 ≤ length words.now }
+    ensures { out.new ≡ run (byte_in words.now 0) 0 (length out.old) }
 {
-    let mut k = 0;
-    while k < n {
-        let i = first + k;
-        let word = mem[start + i / 4];
-        out[i] = byte_of(word, i % 4);
-        k += 1;
+    for (i, byte) in out.iter_mut().enumerate() {
+        *byte = byte_of(words[i / 4], i % 4);
     }
 }
 
@@ -142,6 +117,6 @@ pub fn load(mem: &[u32], at: WordAddress, n: usize, out: &mut [u8])
 {
     let start = at.0 as usize;
     let whole = n / 4;
-    load_whole(mem, start, whole, out);
-    load_rest(mem, start, 4 * whole, n - 4 * whole, out)
+    put_words(&mem[start..start + whole], out);
+    fill_bytes(&mut out[4 * whole..n], &mem[start + whole..])
 }

@@ -1,8 +1,7 @@
 // The vocabulary: a word's address, bits of words, and bytes in words.
 #![tactic(auto)]
 
-pub mod bits32;
-pub mod bits64;
+pub mod bits;
 pub mod bytes;
 
 ghost use Rattle.std.specs.Prelude.{◌≡◌, ◌<◌};
@@ -16,5 +15,5 @@ pub struct WordAddress(pub u32);
 pub fn bit_of(b: bool) -> u32
     ensures { (result ≡ pick b 1 0) × (result < 2) }
 {
-    if b { 1 } else { 0 }
+    u32::from(b)
 }

@@ -1,15 +1,15 @@
--- The loop has put the first k words, and nothing else: what is there is the splice of a run.
-use mathlib.Core.Path.{refl}
-use lib.ListN.{length-set}
-use Rattle.c_words.proofs.Spelled.{put_none, put_turn, put_done}
-use borrow.Author.Rules.{rules}
+-- What is written over a part stands between what was before it and what was after it.
+use Rattle.std.proofs.Common.{ℕ, ◌≡◌, ◌+◌, ◌-◌, List, ◌++◌, length, take, drop, sym, append_assoc, arith}
+use Rattle.std.proofs.lemmas.List.{drop-drop}
+use Rattle.words.specs.Runs.{splice}
 use Rattle.c_words.proofs.buffers.put.Goals as goal
 
-pub loop-k-init : goal.loop-k-init
-loop-k-init c = (search rules, put_none c.args.from.now _ _, refl)
-
-pub loop-k-preserved : goal.loop-k-preserved
-loop-k-preserved c = (search rules, search (put_turn, rules), simp length-set c.loop-k.invariant.2)
+put_over : (l from is : List ℕ) (at : ℕ) → is ≡ from
+    → take at l ++ (is ++ drop (at + length from - at) (drop at l)) ≡ splice l at from
+unfolding splice
+put_over l from is at e =
+    let past : at + (at + length from - at) ≡ at + length from = omega arith in
+    rw (drop-drop, past, e) (sym (append_assoc (take at l) from _))
 
 pub returns : goal.returns
-returns c = search (put_done, rules)
+returns c = put_over c.args.words.now c.args.from.now _ c.args.at c.copy_from_slice.ensures.after

@@ -1,13 +1,6 @@
--- 20 and 30, or the choice, by the shape of a call.
-use Rattle.choosing.proofs.Calls.{choice_refused, choice_can, choice_done}
-use borrow.Author.Rules.{rules}
+-- Where neither 20 nor 30 applies, the choice can be told.
+use Rattle.choosing.proofs.Picks.{can_choose}
 use Rattle.choosing.proofs.asking.ask_choice.Goals as goal
 
 pub choose-requires : goal.choose-requires
-choose-requires c = search (choice_can, rules)
-
-pub returns-in-Refused : goal.returns-in-Refused
-returns-in-Refused c = search (choice_refused, rules)
-
-pub returns-in-Allowed : goal.returns-in-Allowed
-returns-in-Allowed c = search (choice_done, rules)
+choose-requires c = can_choose _ _ _ _ c.in_ok-judge_fit.ensures c.in_ok-judge_output.ensures

@@ -1,12 +1,7 @@
 -- The pick so far is the choice among the buffers that were passed.
-use Prim.Native.Nat.{◌≤◌, ◌-◌}
 use mathlib.Core.Path.{◌≡◌}
 use Rattle.choosing.specs.Needs.{picked, choice_below}
 use Rattle.choosing.proofs.picking.best_buffer.Given as goal
 
 abbrev pub invariant-loop-buffer : goal.invariant-loop-buffer
-invariant-loop-buffer l =
-    (l.buffer ≤ l.a.count) × (l.count ≡ l.a.count) × (picked l.best ≡ choice_below l.s l.mem l.buffer)
-
-abbrev pub decreases-loop-buffer : goal.decreases-loop-buffer
-decreases-loop-buffer l = l.count - l.buffer
+invariant-loop-buffer l = picked l.best ≡ choice_below l.s l.mem l.buffer

@@ -1,21 +1,17 @@
--- The loop is the search for the lowest place that differs: what is left of it is the search from the next place on.
-use Rattle.engine.proofs.Cases.{can_look}
-use Rattle.engine.proofs.Unfitness.{shared_found, shared_on, shared_none}
-use Rattle.words.proofs.Lowest.{look_start}
-use borrow.Author.Rules.{rules}
+-- Some place differs exactly where the lowest that does is one of the ring's.
+use Rattle.std.proofs.Common.{rules, arith, tests, refl, ◌∙◌}
+use Rattle.std.proofs.iter.Serving.{serving}
+use Rattle.std.proofs.lemmas.Iterator.{YieldsList-from_range}
+use Rattle.std.proofs.lemmas.Iterator.Search.{any_from_yields_List}
+use Rattle.engine.specs.Fitness.{differs}
+use Rattle.engine.proofs.Cases.{shared_most}
+use Rattle.engine.proofs.Unfitness.{any_differs}
 use Rattle.engine.proofs.fitness.shared_unfit.Goals as goal
 
-pub loop-p-init : goal.loop-p-init
-loop-p-init c = (search rules, look_start _ _)
-
-pub differs_at-requires : goal.differs_at-requires
-differs_at-requires c = search (can_look, rules)
-
-pub returns-then-differs_at : goal.returns-then-differs_at
-returns-then-differs_at c = search (shared_found, rules)
-
-pub loop-p-preserved : goal.loop-p-preserved
-loop-p-preserved c = (search rules, search (shared_on, rules))
+pub any-requires-clause-callable : goal.any-requires-clause-callable
+any-requires-clause-callable c = grind (serving, arith, shared_most)
 
 pub returns : goal.returns
-returns c = search (shared_none, rules)
+returns c =
+    any_from_yields_List (differs c.args.s) _ _ _ c.any.ensures.ran (YieldsList-from_range 0 c.shared_ring_size.result c.shared_ring_size.result refl (omega arith)) (λ x b q k. search (rules, tests))
+    ∙ any_differs c.args.s _ c.shared_ring_size.ensures.0

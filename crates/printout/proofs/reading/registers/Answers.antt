@@ -1,20 +1,24 @@
--- The word at a place is the number on that line.
-use Prim.Native.Nat.{ℕ}
-use mathlib.Core.Path.{◌≡◌, ap, ◌∙◌}
-use mathlib.Core.Bool.{false}
-use mathlib.Core.List.{List}
-use lib.ListN.{get_or}
-use Rattle.words.specs.Runs.{run}
-use Rattle.registers.specs.Given.{registers_from}
-use Rattle.registers.specs.declared.Registers.{Registers}
-use Rattle.printout.specs.Input.{number, bench_words, registers_of}
-use borrow.Author.Rules.{rules}
+-- The first i lines are read, and their numbers are the words.
+use Rattle.std.proofs.Common.{rules}
+use Rattle.printout.proofs.Lines.{wrong_length, no_lines, one_more_line, unread_line, all_read, registers_read}
 use Rattle.printout.proofs.reading.registers.Goals as goal
 
-by_line : (s ws : List ℕ) (r : Registers) → ws ≡ run (number s) 0 12
-    → r ≡ registers_from (λ (i : ℕ). get_or ws i 0) false false bench_words → r ≡ registers_of s
-unfolding run
-by_line s ws r e h = h ∙ ap (λ (vs : List ℕ). registers_from (λ (i : ℕ). get_or vs i 0) false false bench_words) e
+pub returns-then-input-ne108 : goal.returns-then-input-ne108
+returns-then-input-ne108 c = λ e. search (wrong_length, rules)
+
+pub loop-i-init : goal.loop-i-init
+loop-i-init c = no_lines _ _
+
+pub loop-i-preserved : goal.loop-i-preserved
+loop-i-preserved c =
+    let w = c.in_ok-word.ensures {u = tt} in
+    one_more_line c.args.input.now c.loop-i.i c.loop-i.word-items (search rules) c.loop-i.invariant (search rules) w.0 _
+    w.1
+
+pub returns-in_err-word : goal.returns-in_err-word
+returns-in_err-word c =
+    rw c.from_residual.ensures
+    (λ y. unread_line c.args.input.now c.loop-i.i (c.in_err-word.ensures {u = tt}) y (search rules))
 
 pub returns : goal.returns
-returns c = search (by_line, rules)
+returns c = (search (all_read, rules), search (registers_read, rules))

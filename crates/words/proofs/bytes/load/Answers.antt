@@ -1,7 +1,7 @@
 -- The bytes of the words that are read whole, and those behind them.
-use Rattle.words.proofs.Moves.{rest_loaded}
-use borrow.Author.Rules.{rules}
+use Rattle.std.proofs.Common.{rules}
+use Rattle.words.proofs.Moves.{loaded}
 use Rattle.words.proofs.bytes.load.Goals as goal
 
 pub returns : goal.returns
-returns c = search (rest_loaded, rules)
+returns c = search (loaded, rules)

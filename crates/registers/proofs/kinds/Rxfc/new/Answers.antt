@@ -1,8 +1,9 @@
 -- The fields stand apart, so each holds its number and no other bit is set.
 use native.Mathlib.Omega.{arith}
+use mathlib.Core.Path.{refl}
 use Rattle.registers.specs.Kinds.{rxfc}
 use Rattle.registers.proofs.Built.{built}
 use Rattle.registers.proofs.kinds.Rxfc.new.Goals as goal
 
 pub returns : goal.returns
-returns c = built rxfc _ tt c.requires _ (omega (arith, c.bit_of.ensures))
+returns c = built rxfc _ _ refl c.requires (grind arith)

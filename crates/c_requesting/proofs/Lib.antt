@@ -1,2 +1,0 @@
-pub mod RequestingCalls
-pub mod EventCalls

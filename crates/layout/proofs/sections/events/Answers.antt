@@ -1,5 +1,0 @@
--- Start and count are what the register's accessors give.
-use Rattle.layout.proofs.sections.events.Goals as goal
-
-pub returns : goal.returns
-returns c = cc
