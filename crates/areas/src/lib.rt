@@ -1,9 +1,11 @@
 // The areas of the memory where elements stand: FIFO 0 and 1, Rx buffers, events and Tx buffers.
 #![tactic(auto)]
 
-ghost use Rattle.std.specs.Prelude.{◌≡◌, ◌≤◌};
+ghost use Rattle.std.specs.Prelude.{◌≡◌, ◌+◌, ◌≤◌};
+ghost use Rattle.places.specs.Areas.{place_in, HasPlace};
 ghost use Rattle.areas.specs.Areas.{area_in, fifo_area, buffer_area, event_area, tx_area, data_words};
 
+use element::memory::Element;
 use frame::sizes::element_words;
 use layout::sections::{Section, events, fifo, rx_buffers, tx_buffers};
 use places::Area;
@@ -13,8 +15,11 @@ use registers::kinds::Txefc;
 fn area_in(s: Section, count: u32, each: u32) -> Area
     ensures { result ≡ area_in s count each }
 {
-    let start = s.start;
-    Area { start, count, each }
+    Area {
+        start: s.start,
+        count,
+        each,
+    }
 }
 
 pub fn fifo_area(r: Registers, number: u32) -> Area
@@ -52,4 +57,18 @@ pub fn data_words(a: Area) -> usize
     ensures { result ≡ data_words a }
 {
     (a.each - 2) as usize
+}
+
+// The element at a place of an area in a memory of so many words.
+pub fn element_in(a: Area, place: u32, words: usize) -> Element
+    requires place { HasPlace a place words }
+    requires header { 2 ≤ a.each }
+    ensures at { result.at.0 ≡ place_in a place }
+    ensures words { result.words ≡ data_words a }
+    ensures fits { result.at.0 + 2 + result.words ≤ words }
+{
+    Element {
+        at: a.place_in(place, words),
+        words: data_words(a),
+    }
 }

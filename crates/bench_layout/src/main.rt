@@ -29,6 +29,7 @@ fn read_full<R: Read>(from: &mut R, input: &mut [u8]) -> io::Result<usize>
 
 fn main(rt: HostRuntime) -> io::Result<()> {
     // Longer than an input that is read, so that a byte too many is seen.
+    // No heap, so no `read_to_end`.
     let mut input = [0; 4096];
     let n = read_full(&mut rt.reader(), &mut input)?;
     print!(rt; "{}", printout(&input[..n]))

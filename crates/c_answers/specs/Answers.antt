@@ -1,6 +1,5 @@
 -- What a call says, in words: the number that it returns, and the words of its answer.
 use Rattle.std.specs.Prelude.{ℕ, ◌+◌, Option, Some, None, Result, Ok, Err, List, [], ◌∷◌, ◌++◌}
-use Rattle.words.specs.Runs.{splice}
 use Rattle.shape.specs.Calls.{Says, refuses, answers}
 use Rattle.element.specs.declared.RxRead.{RxRead}
 use Rattle.element.specs.declared.EventHeader.{EventHeader}
@@ -16,11 +15,6 @@ use Rattle.c_words.specs.Frames.{pack_frame}
 use Rattle.c_answers.specs.declared.numbers.CRefusal.{CRefusal}
 use Rattle.c_answers.specs.declared.numbers.CRefusal.TheVariants.{WrongLength, Neither, Layout, Call}
 
--- 0 where the call is accepted, else the refusal's number
-abbrev pub result_of : {A : Type 0} → Says A → ℕ
-result_of (refuses n) = n.number
-result_of (answers a) = 0
-
 -- what refuses a call from C, by its number
 abbrev pub code_of : CRefusal → ℕ
 code_of WrongLength = 100
@@ -32,11 +26,6 @@ code_of (Call n) = number_of n
 abbrev pub code : {A : Type 0} → Result A CRefusal → ℕ
 code (Ok a) = 0
 code (Err e) = code_of e
-
--- the answer's words go to the front of those lent, and the rest stays; a refusal leaves them all
-abbrev pub told_in : {A : Type 0} → (A → List ℕ) → List ℕ → Says A → List ℕ
-told_in words lent (refuses n) = lent
-told_in words lent (answers a) = splice lent 0 (words a)
 
 -- of a call that has nothing to tell
 abbrev pub no_words : Unit {0} → List ℕ

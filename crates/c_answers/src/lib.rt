@@ -1,4 +1,5 @@
-// What the handler's calls say, in words.
+// What the handler's calls say, in words: by functions and no `From`, which would be no plainer: it would stand in the
+// crates below, which know of no C words.
 #![tactic(auto)]
 
 pub mod engine_answers;

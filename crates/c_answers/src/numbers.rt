@@ -24,7 +24,7 @@ impl From<LayoutRefusal> for CRefusal {
     ghost from_gives = { λ n e. e ≡ Layout n };
 
     fn from(n: LayoutRefusal) -> Self {
-        CRefusal::Layout(n)
+        Self::Layout(n)
     }
 }
 
@@ -32,7 +32,7 @@ impl From<Refusal> for CRefusal {
     ghost from_gives = { λ n e. e ≡ Call n };
 
     fn from(n: Refusal) -> Self {
-        CRefusal::Call(n)
+        Self::Call(n)
     }
 }
 

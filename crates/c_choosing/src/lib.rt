@@ -9,7 +9,7 @@ ghost use Rattle.c_choosing.specs.ChoosingCalls.{ask_choice_call, report_sent_ca
 use c_answers::ANSWER_WORDS;
 use c_answers::numbers::CRefusal;
 use c_answers::sending_answers::{chosen_words, nothing_words};
-use c_entering::entering::enter;
+use c_entering::entering::{enter, yes_no};
 use c_words::buffers::put;
 use c_words::states::{put_record, put_state};
 use choosing::asking;
@@ -31,8 +31,9 @@ pub fn ask_choice(
         (lent state.now recorded.now mem.now answer.old out.old)
         passive }
 {
-    let (s, r) = enter(state, recorded, answer.len() == ANSWER_WORDS, passive < 2)?;
-    match asking::ask_choice(s, r, mem, passive == 1, out)? {
+    let (s, r) = enter(state, recorded, answer.len() == ANSWER_WORDS)?;
+    let passive = yes_no(passive)?;
+    match asking::ask_choice(s, r, mem, passive, out)? {
         Some(chosen) => put(answer, 0, &chosen_words(chosen)),
         None => put(answer, 0, &nothing_words()),
     }
@@ -53,8 +54,9 @@ pub fn report_sent(
         ≡ report_sent_call (lent state.old recorded.old mem.old [] [])
         buffer passive time }
 {
-    let (s, r) = enter(state, recorded, true, passive < 2)?;
-    let after = report::report_sent(s, r, mem, buffer, passive == 1, time)?;
+    let (s, r) = enter(state, recorded, true)?;
+    let passive = yes_no(passive)?;
+    let after = report::report_sent(s, r, mem, buffer, passive, time)?;
     put_state(state, after.state);
     put_record(recorded, after.recorded);
     Ok(())

@@ -97,7 +97,7 @@ pub fn clear_flags(
     ensures { returned (code result) (lent state.now recorded.new mem.now [] [])
         ≡ clear_call (lent state.now recorded.old mem.now [] []) mask }
 {
-    let (s, r) = enter(state, recorded, true, true)?;
+    let (s, r) = enter(state, recorded, true)?;
     let next = overview::clear_flags(s, r, mem, mask)?;
     put_record(recorded, next);
     Ok(())
@@ -114,7 +114,7 @@ pub fn status(
         (lent state.now recorded.now mem.now answer.new [])
         ≡ status_call (lent state.now recorded.now mem.now answer.old []) }
 {
-    let (s, r) = enter(state, recorded, answer.len() == ANSWER_WORDS, true)?;
+    let (s, r) = enter(state, recorded, answer.len() == ANSWER_WORDS)?;
     let told = overview::report_status(s, r, mem)?;
     put(answer, 0, &overview_words(told));
     Ok(())

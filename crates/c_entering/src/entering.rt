@@ -1,5 +1,7 @@
 // What is found against a call from C before it begins, 100 and 101, and the state and record of one that begins.
-ghost use Rattle.std.specs.Prelude.{◌≡◌, ◌&&◌, eqb, length, true, IfOk};
+ghost use Rattle.std.specs.Prelude.{◌≡◌, ◌&&◌, not, eqb, length, true, IfOk};
+ghost use Rattle.words.specs.Rules.{refuse_if};
+ghost use Rattle.c_words.specs.Words.{is_yes_no, says_yes};
 ghost use Rattle.c_words.specs.Frames.{plain_frame};
 ghost use Rattle.c_words.specs.States.{register_words, state_words, plain_registers};
 ghost use Rattle.c_entering.specs.Entering.{has, entry_ruling, entered, sized};
@@ -33,41 +35,52 @@ fn is_sized(state: usize, recorded: usize) -> bool
     state == STATE_WORDS && recorded == RECORD_WORDS
 }
 
-// Of a call on a state, whose own buffers have their lengths, and whose own words say yes or no.
-pub fn enter(
-    state: &[u32],
-    recorded: &[u32],
-    lengths: bool,
-    words: bool,
-) -> Result<(State, Record), CRefusal>
+// Of a call on a state, whose own buffers have their lengths.
+pub fn enter(state: &[u32], recorded: &[u32], lengths: bool) -> Result<(State, Record), CRefusal>
     ensures ruling { entered result
-        ≡ entry_ruling (sized state.now recorded.now && lengths) (plain_registers state.now && words) }
+        ≡ entry_ruling (sized state.now recorded.now && lengths) (plain_registers state.now) }
     ensures taken { IfOk result (λ b. Entered state.now recorded.now b.0 b.1) }
     ensures own { IfOk result (λ b. lengths ≡ true) }
 {
     let box_sized = is_sized(state.len(), recorded.len());
-    let box_plain = is_plain_registers(state);
-    judge(box_sized && lengths, box_plain && words)?;
+    judge(box_sized && lengths, is_plain_registers(state))?;
     Ok((take_state(state), take_record(recorded)))
 }
 
-// The same with a frame and an answer of so many words.
+// What a word of the call's own says, yes or no; found after all lengths, as 101 comes after 100.
+pub fn yes_no(word: u32) -> Result<bool, CRefusal>
+    ensures ruling { entered result ≡ refuse_if (not (is_yes_no word)) 101 }
+    ensures is { IfOk result (λ b. b ≡ says_yes word) }
+{
+    match word {
+        0 => Ok(false),
+        1 => Ok(true),
+        _ => Err(CRefusal::Neither),
+    }
+}
+
+// The same as `enter` with a frame and an answer of so many words. Inlined: a receive is slower else.
+#[inline]
 pub fn enter_frame(
     state: &[u32],
     recorded: &[u32],
     frame: &[u32],
     answer: usize,
-    words: bool,
 ) -> Result<(State, Record), CRefusal>
     ensures ruling { entered result
         ≡ entry_ruling
         (sized state.now recorded.now && (has frame.now 7 && eqb answer 16))
-        (plain_registers state.now && (words && plain_frame frame.now)) }
+        (plain_registers state.now && plain_frame frame.now) }
     ensures taken { IfOk result (λ b. Entered state.now recorded.now b.0 b.1) }
     ensures own { IfOk result (λ b. (length frame.now ≡ 7) × (answer ≡ 16)) }
 {
     let lengths = frame.len() == FRAME_WORDS && answer == ANSWER_WORDS;
-    enter(state, recorded, lengths, words && is_plain_frame(frame))
+    let entered = enter(state, recorded, lengths)?;
+    if is_plain_frame(frame) {
+        Ok(entered)
+    } else {
+        Err(CRefusal::Neither)
+    }
 }
 
 // Of a start: a state, a record and an answer of so many words, and registers. The old state may be any words.

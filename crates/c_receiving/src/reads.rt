@@ -28,7 +28,7 @@ pub fn read_fifo(
         (lent state.now recorded.now mem.now answer.old out.old)
         fifo place }
 {
-    let (s, r) = enter(state, recorded, answer.len() == ANSWER_WORDS, true)?;
+    let (s, r) = enter(state, recorded, answer.len() == ANSWER_WORDS)?;
     let read = reading::read_fifo(s, r, mem, fifo, place, out)?;
     put(answer, 0, &read_words(read));
     Ok(())
@@ -50,7 +50,7 @@ pub fn read_buffer(
         (lent state.now recorded.now mem.now answer.old out.old)
         buffer }
 {
-    let (s, r) = enter(state, recorded, answer.len() == ANSWER_WORDS, true)?;
+    let (s, r) = enter(state, recorded, answer.len() == ANSWER_WORDS)?;
     let read = reading::read_buffer(s, r, mem, buffer, out)?;
     put(answer, 0, &read_words(read));
     Ok(())

@@ -27,7 +27,7 @@ pub fn receive(
         ≡ receive_call (lent state.old recorded.old mem.old answer.old [])
         frame.now bytes.now time }
 {
-    let (s, r) = enter_frame(state, recorded, frame, answer.len(), true)?;
+    let (s, r) = enter_frame(state, recorded, frame, answer.len())?;
     let after = receiving::receive::receive(s, r, mem, take_frame(frame), bytes, time)?;
     put_state(state, after.state);
     put_record(recorded, after.recorded);

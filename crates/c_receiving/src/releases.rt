@@ -22,7 +22,7 @@ pub fn acknowledge_fifo(
         ≡ acknowledge_fifo_call (lent state.old recorded.now mem.now [] [])
         fifo place }
 {
-    let (s, r) = enter(state, recorded, true, true)?;
+    let (s, r) = enter(state, recorded, true)?;
     let next = releasing::acknowledge_fifo(s, r, mem, fifo, place)?;
     put_state(state, next);
     Ok(())
@@ -39,7 +39,7 @@ pub fn release_buffer(
     ensures { returned (code result) (lent state.new recorded.now mem.now [] [])
         ≡ release_buffer_call (lent state.old recorded.now mem.now [] []) buffer }
 {
-    let (s, r) = enter(state, recorded, true, true)?;
+    let (s, r) = enter(state, recorded, true)?;
     let next = releasing::release_buffer(s, r, mem, buffer)?;
     put_state(state, next);
     Ok(())

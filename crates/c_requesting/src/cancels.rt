@@ -20,7 +20,7 @@ pub fn cancel(
     ensures { returned (code result) (lent state.new recorded.new mem.now [] [])
         ≡ cancel_call (lent state.old recorded.old mem.now [] []) buffer }
 {
-    let (s, r) = enter(state, recorded, true, true)?;
+    let (s, r) = enter(state, recorded, true)?;
     let after = cancelling::cancel(s, r, mem, buffer)?;
     put_state(state, after.state);
     put_record(recorded, after.recorded);

@@ -24,7 +24,7 @@ pub fn read_event(
         ≡ read_event_call (lent state.now recorded.now mem.now answer.old [])
         place }
 {
-    let (s, r) = enter(state, recorded, answer.len() == ANSWER_WORDS, true)?;
+    let (s, r) = enter(state, recorded, answer.len() == ANSWER_WORDS)?;
     let event = events::read_event(s, r, mem, place)?;
     put(answer, 0, &event_words(event));
     Ok(())
@@ -41,7 +41,7 @@ pub fn acknowledge_event(
     ensures { returned (code result) (lent state.new recorded.now mem.now [] [])
         ≡ acknowledge_event_call (lent state.old recorded.now mem.now [] []) place }
 {
-    let (s, r) = enter(state, recorded, true, true)?;
+    let (s, r) = enter(state, recorded, true)?;
     let next = events::acknowledge_event(s, r, mem, place)?;
     put_state(state, next);
     Ok(())

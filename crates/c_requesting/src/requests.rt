@@ -5,10 +5,11 @@ ghost use Rattle.c_entering.specs.Entering.{returned, lent};
 ghost use Rattle.c_requesting.specs.RequestingCalls.{request_dedicated_call, request_shared_call};
 
 use c_answers::numbers::CRefusal;
-use c_entering::entering::enter_frame;
+use c_entering::entering::{enter_frame, yes_no};
 use c_words::buffers::put;
-use c_words::frames::take_request;
+use c_words::frames::take_frame;
 use c_words::states::put_state;
+use element::TxHeader;
 use requesting::requesting as calls;
 
 // Requests a dedicated buffer.
@@ -30,8 +31,12 @@ pub fn request_dedicated(
         (lent state.old recorded.now mem.old answer.old [])
         buffer frame.now bytes.now marker wish }
 {
-    let (s, r) = enter_frame(state, recorded, frame, answer.len(), wish < 2)?;
-    let h = take_request(frame, marker, wish);
+    let (s, r) = enter_frame(state, recorded, frame, answer.len())?;
+    let h = TxHeader {
+        frame: take_frame(frame),
+        marker,
+        wish: yes_no(wish)?,
+    };
     let after = calls::request_dedicated(s, r, mem, buffer, h, bytes)?;
     put_state(state, after.state);
     put(answer, 0, &[after.buffer]);
@@ -56,8 +61,12 @@ pub fn request_shared(
         (lent state.old recorded.now mem.old answer.old [])
         frame.now bytes.now marker wish }
 {
-    let (s, r) = enter_frame(state, recorded, frame, answer.len(), wish < 2)?;
-    let h = take_request(frame, marker, wish);
+    let (s, r) = enter_frame(state, recorded, frame, answer.len())?;
+    let h = TxHeader {
+        frame: take_frame(frame),
+        marker,
+        wish: yes_no(wish)?,
+    };
     let after = calls::request_shared(s, r, mem, h, bytes)?;
     put_state(state, after.state);
     put(answer, 0, &[after.buffer]);

@@ -1,9 +1,9 @@
-// A frame and a request as words, and back: by functions and no `From`, which the orphan rule refuses here.
+// A frame as words, and back: by functions and no `From`, which would be no plainer: it would stand in
+// the crates below, which know of no C words.
 ghost use Rattle.std.specs.Prelude.{◌≡◌, length};
-ghost use Rattle.c_words.specs.Frames.{plain_frame, unpack_frame, pack_frame, unpack_request};
+ghost use Rattle.c_words.specs.Frames.{plain_frame, unpack_frame, pack_frame};
 
 use crate::buffers::is_yes_no;
-use element::TxHeader;
 use frame::Frame;
 use words::bit_of;
 
@@ -13,11 +13,7 @@ pub const FRAME_WORDS: usize = 7;
 pub fn is_plain_frame(words: &[u32]) -> bool
     ensures { result ≡ plain_frame words.now }
 {
-    is_yes_no(words, 1)
-        && is_yes_no(words, 2)
-        && is_yes_no(words, 3)
-        && is_yes_no(words, 4)
-        && is_yes_no(words, 5)
+    (1..6).all(|n| is_yes_no(words, n))
 }
 
 pub fn take_frame(words: &[u32]) -> Frame
@@ -48,17 +44,4 @@ pub fn pack_frame(f: Frame) -> [u32; 7]
         bit_of(f.esi),
         f.dlc,
     ]
-}
-
-// What a request brings.
-pub fn take_request(words: &[u32], marker: u8, wish: u32) -> TxHeader
-    requires { length words.now ≡ 7 }
-    ensures { result ≡ unpack_request words.now marker wish }
-{
-    let frame = take_frame(words);
-    TxHeader {
-        frame,
-        marker,
-        wish: wish == 1,
-    }
 }

@@ -1,4 +1,5 @@
-// A state, its registers and a record as words, and back.
+// A state, its registers and a record as words, and back: by functions and no `From`, which would be no plainer: it
+// would stand in the crates below, which know of no C words.
 ghost use Rattle.std.specs.Prelude.{◌≡◌, ◌+◌, ◌*◌, ◌^◌, ◌≤◌, ◌<◌, length};
 ghost use Rattle.c_words.specs.Needs.{StateWords};
 ghost use Rattle.c_words.specs.States.{register_words, state_words};
@@ -92,7 +93,7 @@ pub fn take_any_state(words: &[u32]) -> State
     }
 }
 
-// Packed again it gives the same words.
+// The same state: it says more (packed again it gives these words), of fewer words, so it is a function of its own.
 #[tactic(auto, using(crate::proofs::Inverse::taken_back))]
 pub fn take_state(words: &[u32]) -> State
     requires { StateWords words.now }

@@ -1,6 +1,6 @@
--- What helpers ask of their callers, and what they find so far. A reader of the promises need not read it.
-use Rattle.std.specs.Prelude.{ℕ, ◌<◌, ◌≡◌, Option, Some, None, List, length}
-use Rattle.words.specs.Best.{Best, nobody, somebody, better, best_below}
+-- What helpers ask of their callers, and what they find. A reader of the promises need not read it.
+use Rattle.std.specs.Prelude.{ℕ, ◌≡◌, Option, Some, None, List, length}
+use Rattle.words.specs.Best.{Best, nobody, somebody}
 use Rattle.frame.specs.Arbitration.{rank_of}
 use Rattle.places.specs.Areas.{HasPlace}
 use Rattle.places.specs.declared.Area.{Area}
@@ -8,7 +8,6 @@ use Rattle.engine.specs.Calls.{output_bytes}
 use Rattle.engine.specs.Fitness.{Sound}
 use Rattle.engine.specs.declared.state.State.{State}
 use Rattle.choosing.specs.Buffers.{header_in}
-use Rattle.choosing.specs.Choosing.{is_candidate, rank_at}
 
 -- ---- the scan
 
@@ -19,25 +18,6 @@ picked (Some b) = somebody b
 -- a buffer's rank, in the area of the Tx buffers
 unfoldable pub rank_in : List ℕ → Area → ℕ → ℕ
 rank_in mem a buffer = rank_of (header_in mem a buffer).frame
-
--- a candidate against the pick so far
-unfoldable pub better_in : List ℕ → Area → Option ℕ → ℕ → Best
-better_in mem a best buffer = better (rank_in mem a) (picked best) buffer
-
--- the choice among the first n buffers
-abbrev pub choice_below : State → List ℕ → ℕ → Best
-choice_below s mem n = best_below (is_candidate s) (rank_at s mem) n
-
--- the pick so far is below a number
-abbrev pub Below : Option ℕ → ℕ → Type 0
-Below None n = Unit {0}
-Below (Some b) n = b < n
-
--- a buffer can be compared with the pick so far
-pub record Comparable (a : Area) (words : ℕ) (best : Option ℕ) (buffer : ℕ) : Type 0 where
-  pub place : HasPlace a buffer words
-  pub small : buffer < 32
-  pub below : Below best buffer
 
 -- ---- the answer
 

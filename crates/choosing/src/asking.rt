@@ -11,8 +11,7 @@ ghost use Rattle.choosing.specs.Needs.{CanWrite, CanChoose};
 
 use crate::buffers::{form_sent, header_at};
 use crate::picking::best_buffer;
-use areas::{data_words, tx_area};
-use element::memory::Element;
+use areas::{element_in, tx_area};
 use engine::fitness::judge_fit;
 use engine::refusals::{Refusal, judge_output};
 use engine::state::{Record, State};
@@ -26,7 +25,7 @@ pub struct Chosen {
     // an event is wanted
     pub wish: bool,
     pub frame: Frame,
-    // how many bytes were written
+    // how many bytes were written to the lent output: no heap
     pub count: u32,
 }
 
@@ -40,10 +39,7 @@ fn send_from(s: State, mem: &[u32], buffer: u32, passive: bool, out: &mut [u8]) 
     let h = header_at(mem, a, buffer);
     let frame = form_sent(s.regs, h.frame, passive);
     let count = frame.data_length();
-    let element = Element {
-        at: a.place_in(buffer, mem.len()),
-        words: data_words(a),
-    };
+    let element = element_in(a, buffer, mem.len());
     element.write_sent(mem, count as usize, out);
     Chosen {
         buffer,

@@ -1,6 +1,5 @@
-// Tx buffers: which are in the shared FIFO, what stands in one, and its frame as it is sent.
-ghost use Rattle.std.specs.Prelude.{◌≡◌, not, ◌&&◌, leb, length};
-ghost use Rattle.registers.specs.Fields.{dedicated, is_queue};
+// Tx buffers: what stands in one, and its frame as it is sent.
+ghost use Rattle.std.specs.Prelude.{◌≡◌, length};
 ghost use Rattle.element.specs.Fitting.{InFields};
 ghost use Rattle.places.specs.Areas.{HasPlace};
 ghost use Rattle.choosing.specs.Buffers.{header_in};
@@ -11,13 +10,6 @@ use element::memory::read_tx;
 use frame::Frame;
 use places::Area;
 use registers::Registers;
-
-// Whether a buffer is in the shared part, and that is a FIFO.
-pub fn in_shared_fifo(r: Registers, buffer: u32) -> bool
-    ensures { result ≡ (leb (dedicated r) buffer && not (is_queue r)) }
-{
-    r.txbc.dedicated() <= buffer && !r.is_queue()
-}
 
 // What stands in a buffer's element, but for the bytes.
 pub fn header_at(mem: &[u32], a: Area, buffer: u32) -> TxHeader

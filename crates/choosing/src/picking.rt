@@ -3,7 +3,7 @@ ghost use Rattle.std.specs.Prelude.{◌≡◌, ◌&&◌, ◌+◌, ◌≤◌, ◌
 ghost use Rattle.places.specs.Areas.{HasPlace};
 ghost use Rattle.engine.specs.Fitness.{Sound};
 ghost use Rattle.choosing.specs.Choosing.{is_candidate, choice};
-ghost use Rattle.choosing.specs.Needs.{picked, rank_in, better_in, Comparable};
+ghost use Rattle.choosing.specs.Needs.{picked, rank_in};
 
 use areas::tx_area;
 use element::unpack::tx_header;
@@ -43,30 +43,14 @@ fn rank_at(mem: &[u32], a: Area, buffer: u32) -> u32
     tx_header(mem[at.0 as usize], 0).frame.rank()
 }
 
-// A candidate against the best of the lower numbers: only a smaller rank is better.
-#[tactic(auto, unfolding(crate::specs::Needs::better_in))]
-fn better_of(mem: &[u32], a: Area, best: Option<u32>, buffer: u32) -> Option<u32>
-    requires { Comparable a (length mem.now) best buffer }
-    ensures { picked result ≡ better_in mem.now a best buffer }
-{
-    match best {
-        Some(b) if rank_at(mem, a, b) <= rank_at(mem, a, buffer) => best,
-        _ => Some(buffer),
-    }
-}
-
 // The candidate of the smallest rank, and of several such the one of the lowest number.
-#[tactic(auto, using(words::proofs::Bests::best_start, crate::proofs::Picks::one_more, crate::proofs::Picks::none_more), unfolding(crate::specs::Choosing::choice))]
+#[tactic(auto, unfolding(crate::specs::Choosing::choice))]
 pub fn best_buffer(s: State, mem: &[u32]) -> Option<u32>
     requires { Sound s (length mem.now) }
     ensures { picked result ≡ choice s mem.now }
 {
     let a = tx_area(s.regs);
-    let mut best = None;
-    for buffer in 0..a.count {
-        if is_candidate(s, buffer) {
-            best = better_of(mem, a, best, buffer);
-        }
-    }
-    best
+    (0..a.count)
+        .filter(|b| is_candidate(s, *b))
+        .min_by_key(|b| rank_at(mem, a, *b))
 }

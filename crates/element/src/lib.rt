@@ -34,7 +34,7 @@ pub struct RxHeader {
 #[derive(Clone, Copy)]
 pub struct RxRead {
     pub header: RxHeader,
-    // how many bytes it wrote
+    // how many bytes it wrote to the lent output: no heap
     pub count: u32,
 }
 
@@ -48,6 +48,15 @@ pub struct TxHeader {
     pub marker: u8,
     // an event is wanted
     pub wish: bool,
+}
+
+// What is stored of a sent frame.
+#[derive(Clone, Copy)]
+pub struct Event {
+    pub frame: Frame,
+    pub marker: u8,
+    // the timestamp
+    pub time: u16,
 }
 
 // What stands in an event.

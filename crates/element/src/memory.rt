@@ -7,8 +7,7 @@ ghost use Rattle.element.specs.Elements.{element, rx_element, tx_element, event_
 ghost use Rattle.element.specs.Headers.{tx_header_in, event_header_in, headed};
 ghost use Rattle.element.specs.Bytes.{rx_read, read_bytes, sent_from};
 
-use crate::{Arrival, EventHeader, RxRead, TxHeader, pack, unpack};
-use frame::Frame;
+use crate::{Arrival, Event, EventHeader, RxRead, TxHeader, pack, unpack};
 use words::WordAddress;
 
 // An element: where its first word stands, and how many data words it has. That a memory has it is asked by each method
@@ -89,13 +88,13 @@ impl Element {
 
 // Stores an event.
 #[tactic(auto, using(crate::proofs::Storing::event_stored))]
-pub fn store_event(mem: &mut [u32], at: WordAddress, marker: u8, f: Frame, time: u16)
-    requires { (at.0 + 2 ≤ length mem.old) × InFields f }
-    ensures { mem.new ≡ splice mem.old at.0 (event_element marker f time) }
+pub fn store_event(mem: &mut [u32], at: WordAddress, e: Event)
+    requires { (at.0 + 2 ≤ length mem.old) × InFields e.frame }
+    ensures { mem.new ≡ splice mem.old at.0 (event_element e.marker e.frame e.time) }
 {
     let start = at.0 as usize;
-    mem[start] = pack::first_word(f);
-    mem[start + 1] = pack::event_second_word(marker, f, time);
+    mem[start] = pack::first_word(e.frame);
+    mem[start + 1] = pack::event_second_word(e);
 }
 
 // Reads all but the bytes of a frame to send.

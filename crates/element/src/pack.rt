@@ -6,7 +6,7 @@ ghost use Rattle.element.specs.Needs.{RxInFields};
 ghost use Rattle.element.specs.Word0.{id_bits, word0};
 ghost use Rattle.element.specs.Word1.{form_bits, match_bits, marker_bits, rx_word1, tx_word1, event_word1};
 
-use crate::{Arrival, TxHeader};
+use crate::{Arrival, Event, TxHeader};
 use frame::Frame;
 use words::bit_of;
 
@@ -78,9 +78,9 @@ pub fn tx_second_word(h: TxHeader) -> u32
 
 // Word 1 of an event.
 #[tactic(auto, unfolding(crate::specs::Word1::event_word1))]
-pub fn event_second_word(marker: u8, f: Frame, time: u16) -> u32
-    requires { InFields f }
-    ensures { result ≡ event_word1 marker f time }
+pub fn event_second_word(e: Event) -> u32
+    requires { InFields e.frame }
+    ensures { result ≡ event_word1 e.marker e.frame e.time }
 {
-    marker_bits(marker) + 0x40_0000 + form_bits(f) + time as u32
+    marker_bits(e.marker) + 0x40_0000 + form_bits(e.frame) + e.time as u32
 }

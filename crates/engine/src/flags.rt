@@ -85,7 +85,7 @@ impl Record {
     }
 }
 
-// What the priority record says of a match: its list and index, the outcome and the element.
+// What the priority record says of a match: its list and index, the outcome (as receiving numbers it) and the element.
 #[tactic(auto, unfolding(crate::specs::Flags::priority_word))]
 pub fn priority_word(xtd: bool, index: u32, outcome: u32, place: u32) -> u32
     requires { (index < 128) × (outcome < 4) × (place < 64) }

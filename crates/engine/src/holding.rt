@@ -15,8 +15,8 @@ pub fn judge_held(circle: Circle, place: u32) -> Result<(), Refusal>
     if circle.size <= place {
         return Err(Refusal::NoSuch);
     }
-    if circle.is_held(place) {
-        return Ok(());
+    if !circle.is_held(place) {
+        return Err(Refusal::NotHeld);
     }
-    Err(Refusal::NotHeld)
+    Ok(())
 }

@@ -15,7 +15,8 @@ pub struct Kept {
     pub recorded: Record,
 }
 
-// A ring of this size, watermark and mode, whose flags start at `first`.
+// A ring of this size, watermark and mode, whose flags start at `first`. The size is here and in no Circle: what may not
+// change, `keep_rule` reads it here.
 #[derive(Clone, Copy)]
 pub struct Keeper {
     pub size: u32,

@@ -21,7 +21,7 @@ pub struct State {
     pub shared: Ring,
     // new-data bits of the Rx buffers
     pub newdata: u64,
-    // bits of the Tx buffers
+    // bits of the Tx buffers; a buffer below 32 is asked where its bit is, and a type for that would be no plainer
     pub pending: u32,
     pub sent: u32,
     pub cancelled: u32,

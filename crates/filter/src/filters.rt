@@ -3,7 +3,9 @@ ghost use Rattle.std.specs.Prelude.{◌≡◌};
 ghost use Rattle.filter.specs.Elements.{element11, element29};
 ghost use Rattle.filter.specs.Matching.{seen, in_range, either_of, at_set_bits, matches};
 
-// Numbers, no enums, for type and action: what may not change, `matches` answers for an element of any number.
+use registers::field::Field;
+
+// Numbers, no enums, for type and action: what may not change, MatchIsByType speaks of an element of any number.
 #[derive(Clone, Copy)]
 pub struct FilterElement {
     // the type, 0 to 3
@@ -14,16 +16,34 @@ pub struct FilterElement {
     pub id2: u32,
 }
 
+// The fields of an 11-bit element, by the manual's names: all are of S0.
+const SFT: Field = Field { high: 31, low: 30 };
+
+const SFEC: Field = Field { high: 29, low: 27 };
+
+const SFID1: Field = Field { high: 26, low: 16 };
+
+const SFID2: Field = Field { high: 10, low: 0 };
+
+// Of a 29-bit element: EFEC and EFID1 are of F0, EFT and EFID2 of F1.
+const EFEC: Field = Field { high: 31, low: 29 };
+
+const EFID1: Field = Field { high: 28, low: 0 };
+
+const EFT: Field = Field { high: 31, low: 30 };
+
+const EFID2: Field = Field { high: 28, low: 0 };
+
 impl FilterElement {
     // An 11-bit element, from its word.
     pub fn decode11(s0: u32) -> FilterElement
         ensures { result ≡ element11 s0 }
     {
         FilterElement {
-            filtertype: s0 / 0x4000_0000 % 4,
-            action: s0 / 0x800_0000 % 8,
-            id1: s0 / 0x1_0000 % 0x800,
-            id2: s0 % 0x800,
+            filtertype: SFT.of(s0),
+            action: SFEC.of(s0),
+            id1: SFID1.of(s0),
+            id2: SFID2.of(s0),
         }
     }
 
@@ -32,10 +52,10 @@ impl FilterElement {
         ensures { result ≡ element29 f0 f1 }
     {
         FilterElement {
-            filtertype: f1 / 0x4000_0000 % 4,
-            action: f0 / 0x2000_0000 % 8,
-            id1: f0 % 0x2000_0000,
-            id2: f1 % 0x2000_0000,
+            filtertype: EFT.of(f1),
+            action: EFEC.of(f0),
+            id1: EFID1.of(f0),
+            id2: EFID2.of(f1),
         }
     }
 

@@ -5,16 +5,17 @@ pub mod filters;
 pub mod lists;
 pub mod search;
 
-ghost use Rattle.std.specs.Prelude.{◌≡◌, ◌<◌, length};
-ghost use Rattle.words.specs.Fields.{bits};
+ghost use Rattle.std.specs.Prelude.{◌≡◌, length};
 ghost use Rattle.filter.specs.Needs.{ListsFit};
 ghost use Rattle.filter.specs.Destination.{reason, meaning, remote_out, non_matching, unmatched, rx_buffer};
 ghost use Rattle.filter.specs.Destination.{by_action, destination};
 
+use crate::filters::FilterElement;
 use crate::lists::FilterList;
 use crate::search::Filters;
 use frame::Frame;
 use registers::Registers;
+use registers::field::Field;
 
 // Why a frame is discarded, in the order in which document 01 lists the reasons.
 #[derive(Clone, Copy)]
@@ -37,6 +38,7 @@ impl From<Reason> for u32 {
 }
 
 // Where a frame goes, with the index of the element that matched it, if one did.
+// FIFO 0 or 1 is a number, as calls 3 and 4 take it: what may not change.
 #[derive(Clone, Copy)]
 pub enum Destination {
     // to FIFO 0 or 1, and whether with priority
@@ -80,22 +82,20 @@ fn unmatched(anf: u32) -> Destination
     }
 }
 
-// The Rx buffer that ID2 names.
-fn buffer_of(id2: u32) -> u32
-    ensures { (result ≡ bits 5 0 id2) × (result < 64) }
-{
-    id2 % 64
-}
+// What ID2 says of action 7: whether it asks for debug, and the Rx buffer that it names.
+const DEBUG: Field = Field { high: 10, low: 9 };
+
+const BUFFER: Field = Field { high: 5, low: 0 };
 
 // Action 7: to the Rx buffer that ID2 names, unless it asks for debug, no such buffer is there, or it holds new data.
 #[tactic(auto, unfolding(crate::specs::Destination::rx_buffer))]
 fn rx_buffer(id2: u32, buffers: u32, newdata: u64, i: u32) -> Destination
     ensures { meaning result ≡ rx_buffer id2 buffers newdata i }
 {
-    if id2 / 0x200 % 4 != 0 {
+    if DEBUG.of(id2) != 0 {
         return Destination::Discarded(Reason::Debug, Some(i));
     }
-    let buffer = buffer_of(id2);
+    let buffer = BUFFER.of(id2);
     if buffers <= buffer {
         return Destination::Discarded(Reason::Misfiled, Some(i));
     }
@@ -105,19 +105,20 @@ fn rx_buffer(id2: u32, buffers: u32, newdata: u64, i: u32) -> Destination
     Destination::Buffer(buffer, i)
 }
 
-// By the action of element i, the first that matches. Action 0 never does.
+// By the action of element i, which is e, the first that matches. Action 0 never does.
+// By the element's number: what may not change, ActionTells speaks of an element of any number.
 #[tactic(auto, unfolding(crate::specs::Destination::by_action))]
-fn by_action(action: u32, id2: u32, buffers: u32, newdata: u64, i: u32) -> Destination
-    ensures { meaning result ≡ by_action action id2 buffers newdata i }
+fn by_action(e: FilterElement, buffers: u32, newdata: u64, i: u32) -> Destination
+    ensures { meaning result ≡ by_action e.action e.id2 buffers newdata i }
 {
-    match action {
+    match e.action {
         1 => Destination::Fifo(0, false, Some(i)),
         2 => Destination::Fifo(1, false, Some(i)),
         3 => Destination::Discarded(Reason::Reject, Some(i)),
         4 => Destination::Discarded(Reason::PriorityOnly, Some(i)),
         5 => Destination::Fifo(0, true, Some(i)),
         6 => Destination::Fifo(1, true, Some(i)),
-        _ => rx_buffer(id2, buffers, newdata, i),
+        _ => rx_buffer(e.id2, buffers, newdata, i),
     }
 }
 
@@ -135,6 +136,5 @@ pub fn destination_of(regs: Registers, mem: &[u32], f: Frame, newdata: u64) -> D
     let Some(i) = filters.first_match(f.id) else {
         return unmatched(non_matching(regs, f.xtd));
     };
-    let e = filters.at(i);
-    by_action(e.action, e.id2, regs.buffers, newdata, i)
+    by_action(filters.at(i), regs.buffers, newdata, i)
 }

@@ -6,7 +6,8 @@ use registers::Registers;
 use registers::kinds::SectionRegister;
 use words::WordAddress;
 
-// A list: of which kind, where it starts, how many elements it has, and what XIDAM lets through.
+// A list: of which kind, where it starts, how many elements it has (a start and a count, since the memory is lent: no
+// heap), and what XIDAM lets through.
 #[derive(Clone, Copy)]
 pub struct FilterList {
     pub xtd: bool,

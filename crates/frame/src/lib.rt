@@ -17,7 +17,7 @@ use words::bit_of;
 pub struct Frame {
     // the identifier
     pub id: u32,
-    // of 29 bits, else of 11
+    // of 29 bits, else of 11; apart from the identifier, since calls take any (`malformed`): what may not change
     pub xtd: bool,
     // remote
     pub rtr: bool,

@@ -1,4 +1,5 @@
-// The record, changed in place by the caller's interrupt code: thin functions over the steps by value.
+// The record, changed in place by the caller's interrupt code: few thin functions by `&mut` (document 01's form) over
+// the steps by value.
 // They are raw steps: no state is asked for, and nothing is refused.
 #![tactic(auto)]
 

@@ -42,6 +42,7 @@ fn section_of(start: WordAddress, count: u32, each: u32) -> Section
     }
 }
 
+// Each list by its own register's fields: one function for several would be no plainer.
 fn filters11(r: Registers) -> Section
     ensures { result ≡ filters11_section r }
 {
@@ -62,6 +63,7 @@ pub fn fifo(r: Registers, number: u32) -> Section
     section_of(w.start(), w.count(), element_words(r.fifo_code(number)))
 }
 
+// At most 64 is asked where a section is made, and no invariant: what may not change, Registers takes any number.
 pub fn rx_buffers(r: Registers) -> Section
     requires { r.buffers ≤ 64 }
     ensures { result ≡ buffer_section r }

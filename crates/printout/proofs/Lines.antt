@@ -1,6 +1,6 @@
 -- The twelve lines: which inputs are read, and the number that a line's digits make.
 -- Assumes nothing.
-use Prim.Native.Nat.{ℕ, zero, suc, ◌+◌, ◌-◌, ◌*◌, ◌%◌, ◌^◌, ◌≤◌, ◌<◌}
+use Prim.Native.Nat.{ℕ, zero, suc, ◌+◌, ◌*◌, ◌%◌, ◌^◌, ◌≤◌, ◌<◌}
 use mathlib.Core.Path.{◌≡◌, refl, sym, ap, ap₂, ◌∙◌}
 use mathlib.Core.Bool.{Bool, true, false, not, ◌&&◌}
 use mathlib.Core.List.{List}
@@ -11,9 +11,10 @@ use native.Mathlib.Omega.{arith}
 use lib.Dec.{eqb, ltb}
 use lib.ListN.{length, get_or}
 use Rattle.std.specs.Char.{digit_value}
-use Rattle.std.proofs.Common.{below_more, zero-add, take, drop, set, ◌/◌}
+use Rattle.std.proofs.Common.{below_more, zero-add, take, drop, set, ◌/◌, ◌++◌}
 use Rattle.std.proofs.lemmas.Grind.{common_steps}
-use Rattle.std.proofs.lemmas.List.{get_or-take, get_or-drop}
+use Rattle.std.proofs.Math.Seq.{drop-append_seam}
+use Rattle.std.proofs.lemmas.List.{get_or-take, get_or-drop, get_or_append_left, length-append, length-drop, drop-drop}
 use Rattle.words.specs.Choice.{pick}
 use Rattle.words.proofs.Choices.{pick_first, pick_second, and_both}
 use Rattle.words.proofs.Lowest.{least_below, least_absent}
@@ -188,17 +189,25 @@ on_its_line b j k h =
     let e : (9 * j + k) % 9 ≡ k % 9 = omega arith in
     ap (λ (x : ℕ). pick (eqb x 8) (eqb b 10) (ltb (digit_value b) 16)) e
 
-of_slice : (s : List ℕ) (a n k : ℕ) → k < n → get_or (take n (drop a s)) k 0 ≡ get_or s (a + k) 0
-of_slice s a n k h = get_or-take n (drop a s) k 0 h ∙ get_or-drop a s k 0
-
-module _ (s : List ℕ) (i : ℕ) where
-  -- line i by itself
-  abbrev line : List ℕ
-  line = take (9 * i + 9 - 9 * i) (drop (9 * i) s)
-
+-- line i, and what is left of the input with it and after it
+module _ (s : List ℕ) (i : ℕ) (line rest : List ℕ) (nine : length line ≡ 9) (left : line ++ rest ≡ drop (9 * i) s) where
   line_byte : (k : ℕ) → k < 9 → get_or line k 0 ≡ get_or s (9 * i + k) 0
   line_byte k h =
-      of_slice s (9 * i) (9 * i + 9 - 9 * i) k (omega arith)
+      sym (get_or_append_left line rest 0 k (omega arith))
+      ∙ ap (λ (l : List ℕ). get_or l k 0) left
+      ∙ get_or-drop (9 * i) s k 0
+
+  line_within : length s ≡ 108 → i < 12
+  line_within size =
+      omega (arith, ap (λ (l : List ℕ). length l) left, length-append line rest, length-drop (9 * i) s)
+
+  pub left_after : rest ≡ drop (9 * (i + 1)) s
+  left_after =
+      sym (drop-append_seam line rest)
+      ∙ ap (λ (n : ℕ). drop n (line ++ rest)) nine
+      ∙ ap (drop 9) left
+      ∙ drop-drop 9 (9 * i) s
+      ∙ ap (λ (n : ℕ). drop n s) (omega arith)
 
   line_digits : (k : ℕ) → k ≤ 8 → number_from line 0 k ≡ number_from s (9 * i) k
   unfolding number_from
@@ -208,17 +217,18 @@ module _ (s : List ℕ) (i : ℕ) where
       (ap (λ (j : ℕ). get_or line j 0) (zero-add k) ∙ line_byte k (omega arith))
 
   -- an input that is read has it
-  pub unread_line : (LineRead line → ⊥) → readable s ≡ true → i < 12 → ⊥
-  unread_line n y h =
+  pub unread_line : (LineRead line → ⊥) → readable s ≡ true → ⊥
+  unread_line n y =
+      let h = line_within (read_length s y) in
       n
       (λ k m.
       ap (λ (b : ℕ). in_place b k) (line_byte k m)
       ∙ sym (on_its_line (get_or s (9 * i + k) 0) i k m)
       ∙ in_its_place s y (9 * i + k) (omega arith))
 
-  pub one_more_line : (ws : List ℕ) → length ws ≡ 12 → Lines s ws i → i < 12 → LineRead line → (v : ℕ)
+  pub one_more_line : (ws : List ℕ) → length ws ≡ 12 → Lines s ws i → length s ≡ 108 → LineRead line → (v : ℕ)
       → v ≡ number_from line 0 8 → Lines s (set ws i v) (i + 1)
-  one_more_line ws size l h r v e = record {
+  one_more_line ws size l full r v e = record {
     read = λ j k m n. below_more (λ j. in_place (get_or s (9 * j + k) 0) k ≡ true) i (λ j q. l.read j k q n)
         (ap (λ (b : ℕ). in_place b k) (sym (line_byte k n)) ∙ r k n) j m;
     word = below_more (λ j. get_or (set ws i v) j 0 ≡ number s j) i (λ j q. apart j q ∙ l.word j q)
@@ -229,7 +239,10 @@ module _ (s : List ℕ) (i : ℕ) where
       apart j q = grind (arith, common_steps)
 
       here : get_or (set ws i v) i 0 ≡ v
-      here = grind (arith, common_steps)
+      here = let h = line_within full in grind (arith, common_steps)
+
+pub none_left : (s rest : List ℕ) (i : ℕ) → length s ≡ 108 → rest ≡ drop (9 * i) s → length rest < 9 → 12 ≤ i
+none_left s rest i size e h = omega (arith, ap (λ (l : List ℕ). length l) e, length-drop (9 * i) s)
 
 module _ (s ws : List ℕ) (i : ℕ) (l : Lines s ws i) (h : 12 ≤ i) where
   pub all_read : length s ≡ 108 → readable s ≡ true

@@ -12,6 +12,7 @@ use layout::sections::Section;
 use std::fmt;
 
 // What an input gives.
+// An enum of its own, for `Display`: a type around std's `Option<Result<..>>` would be no plainer.
 #[derive(Clone, Copy)]
 pub enum Answer {
     Unread,

@@ -27,8 +27,8 @@ pub(crate) fn registers(input: &[u8]) -> Option<Registers>
         return None;
     }
     let mut words = [0; 12];
-    for (i, word) in words.iter_mut().enumerate() {
-        *word = number_on(&input[9 * i..9 * i + 9])?;
+    for (i, line) in input.chunks_exact(9).enumerate() {
+        words[i] = number_on(line)?;
     }
     Some(Registers::from_words(&words, false, false, BENCH_WORDS))
 }

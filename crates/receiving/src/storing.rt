@@ -10,24 +10,20 @@ ghost use Rattle.engine.specs.States.{fifo_ring};
 ghost use Rattle.receiving.specs.Fifos.{keeper_of};
 ghost use Rattle.receiving.specs.Needs.{CanStore, CanPut, RingFits};
 
-use areas::data_words;
+use areas::element_in;
 use element::Arrival;
-use element::memory::Element;
 use engine::flags::FIFO_FLAGS;
 use engine::keeping::{Keeper, Kept};
 use engine::state::{Record, State};
 use places::Area;
 
+// The arrival and its bytes are no struct, which is no plainer: words and priority speak of an arrival without bytes.
 pub fn store_at(mem: &mut [u32], area: Area, place: u32, a: Arrival, bytes: &[u8])
     requires { CanStore area place a (length mem.old) }
     ensures { mem.new
         ≡ splice mem.old (place_in area place) (rx_element a bytes.now (data_words area)) }
 {
-    let element = Element {
-        at: area.place_in(place, mem.len()),
-        words: data_words(area),
-    };
-    element.store_rx(mem, a, bytes)
+    element_in(area, place, mem.len()).store_rx(mem, a, bytes)
 }
 
 // Stores an arrival in a slot, if that has a place.

@@ -1,5 +1,6 @@
 // A type for each register kind: its reset word, its legal bits, the most its count may be, and where its fields stand.
-// A field stands at the bits that specs/Kinds gives it; `new` puts a word together from its fields.
+// A field stands at the bits that specs/Kinds gives it; `new` puts a word together from its fields. Each type says its
+// own fields, count and start, by document 01's form; what they share is in the traits.
 ghost use Rattle.std.specs.Prelude.{ℕ, List, ◌≡◌, [], ◌∷◌, refl};
 ghost use Rattle.words.specs.Fields.{only_named, mask_of};
 ghost use Rattle.registers.specs.Kinds.{field, flag, bit_of, Fit, Built, section_start};
@@ -263,7 +264,7 @@ impl Rxbc {
     }
 }
 
-// Size codes of Rx elements: buffers, FIFO 1 and FIFO 0.
+// Size codes of Rx elements: buffers, FIFO 1 and FIFO 0. Numbers: what may not change, `new` takes them.
 #[derive(Clone, Copy)]
 pub struct Rxesc {
     pub word: u32,
@@ -451,7 +452,7 @@ impl Txbc {
     }
 }
 
-// Size code of Tx elements.
+// Size code of Tx elements, a number as in Rxesc.
 #[derive(Clone, Copy)]
 pub struct Txesc {
     pub word: u32,
@@ -494,7 +495,7 @@ impl Txesc {
     }
 }
 
-// What becomes of frames that no filter matches, and of remote ones, by 11 and 29 bits.
+// What becomes of frames that no filter matches, a number as in Rxesc, and of remote ones, by 11 and 29 bits.
 #[derive(Clone, Copy)]
 pub struct Gfc {
     pub word: u32,

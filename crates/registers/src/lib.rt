@@ -4,8 +4,8 @@
 pub mod field;
 pub mod kinds;
 
-ghost use Rattle.std.specs.Prelude.{◌≡◌, ◌≤◌, ◌<◌, length, get_or};
-ghost use Rattle.registers.specs.Fields.{fifo_word, fifo_code, tx_count, is_queue};
+ghost use Rattle.std.specs.Prelude.{◌≡◌, ◌≤◌, ◌<◌, length, get_or, leb, not, ◌&&◌};
+ghost use Rattle.registers.specs.Fields.{fifo_word, fifo_code, dedicated, tx_count, is_queue};
 ghost use Rattle.registers.specs.Given.{all_named, registers_from, reset_registers};
 
 use crate::kinds::{
@@ -99,7 +99,7 @@ impl Registers {
             & self.xidam.only_named()
     }
 
-    // The register of Rx FIFO 0 or 1. A number and no enum, which would be no plainer: flags are worked out from it.
+    // The register of Rx FIFO 0 or 1. A number and no enum: what may not change, `fifo_word` and call 3.
     #[tactic(auto, unfolding(crate::specs::Fields::fifo_word))]
     pub fn fifo(self, number: u32) -> Rxfc
         ensures { result.word ≡ fifo_word self number }
@@ -131,5 +131,12 @@ impl Registers {
         ensures { result ≡ is_queue self }
     {
         self.txbc.queue()
+    }
+
+    // Whether a Tx buffer is in the shared part, and that is a FIFO.
+    pub fn in_shared_fifo(self, buffer: u32) -> bool
+        ensures { result ≡ (leb (dedicated self) buffer && not (is_queue self)) }
+    {
+        self.txbc.dedicated() <= buffer && !self.is_queue()
     }
 }

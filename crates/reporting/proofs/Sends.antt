@@ -1,7 +1,7 @@
 -- The send of a buffer of the shared FIFO: it is the oldest, which is held, so the ring's head moves past it.
 -- Assumes nothing.
 use Prim.Native.Nat.{ℕ, ◌+◌, ◌<◌}
-use mathlib.Core.Path.{◌≡◌, refl, sym, ◌∙◌}
+use mathlib.Core.Path.{◌≡◌, refl, sym, ap, ◌∙◌}
 use mathlib.Core.Bool.{true, false, not}
 use borrow.Author.Tests.{leb-true, le-ltb, ltb-true, not-true}
 use native.Mathlib.Omega.{arith}
@@ -29,8 +29,9 @@ module _ (s : State) (buffer : ℕ) (h : Fit s.shared (shared_ring_size s.regs))
   is_fifo : is_queue s.regs ≡ false
   is_fifo = not-true (is_queue s.regs) parts.1
 
-  pub shared_fits : (n : ℕ) → n ≡ shared s.regs → Fit s.shared n
-  shared_fits n q = rw (fifo_ring_is s.regs (is_queue s.regs) refl is_fifo n q) h
+  -- in FIFO mode the ring is of the size in the register
+  size_is : shared s.regs ≡ shared_ring_size s.regs
+  size_is = fifo_ring_is s.regs (is_queue s.regs) refl is_fifo (shared s.regs) refl
 
   module _ (c : is_candidate s buffer ≡ true) where
     -- a candidate of the shared FIFO is its oldest, so something is held
@@ -43,11 +44,11 @@ module _ (s : State) (buffer : ℕ) (h : Fit s.shared (shared_ring_size s.regs))
         ltb-true 0 s.shared.fill
         (and_both (ltb 0 s.shared.fill) (eqb buffer (dedicated s.regs + s.shared.oldest)) (simp (t, f) at c)).0
 
-    pub head_held : held s.shared (shared s.regs) s.shared.oldest ≡ true
-    head_held = oldest_held s.shared (shared s.regs) (shared_fits (shared s.regs) refl) some_held
+    pub head_held : held s.shared (shared_ring_size s.regs) s.shared.oldest ≡ true
+    head_held = oldest_held s.shared (shared_ring_size s.regs) h some_held
 
-    pub head_moved : released_through s.shared (shared s.regs) s.shared.oldest ≡ shared_sent s buffer
+    pub head_moved : released_through s.shared (shared_ring_size s.regs) s.shared.oldest ≡ shared_sent s buffer
     head_moved =
-        let f = shared_fits (shared s.regs) refl in
-        released_oldest s.shared (shared s.regs) f (omega (arith, some_held, f.room))
+        released_oldest s.shared (shared_ring_size s.regs) h (omega (arith, some_held, h.room))
+        ∙ ap (λ (k : ℕ). released s.shared k 1) (sym size_is)
         ∙ sym (pick_first (released s.shared (shared s.regs) 1) s.shared e)

@@ -10,11 +10,11 @@ ghost use Rattle.reporting.specs.Needs.{CanTell, EventFits};
 
 use areas::{event_area, tx_area};
 use choosing::buffers::{form_sent, header_at};
+use element::Event;
 use element::memory::store_event;
 use engine::flags::EVENT_FLAGS;
 use engine::keeping::Keeper;
 use engine::state::{After, Record, State};
-use frame::Frame;
 use places::Area;
 use registers::Registers;
 
@@ -31,23 +31,23 @@ fn event_keeper(r: Registers) -> Keeper
 }
 
 // Writes an event to its slot, if it has one.
-fn write_event(mem: &mut [u32], a: Area, slot: Option<u32>, marker: u8, f: Frame, time: u16)
-    requires { EventFits a (length mem.old) slot f }
-    ensures { mem.new ≡ slot_memory mem.old a (event_element marker f time) slot }
+fn write_event(mem: &mut [u32], a: Area, slot: Option<u32>, e: Event)
+    requires { EventFits a (length mem.old) slot e.frame }
+    ensures { mem.new ≡ slot_memory mem.old a (event_element e.marker e.frame e.time) slot }
 {
     if let Some(place) = slot {
-        store_event(mem, a.place_in(place, mem.len()), marker, f, time)
+        store_event(mem, a.place_in(place, mem.len()), e)
     }
 }
 
 // A full list loses the event, with a flag.
-fn keep_event(s: State, recorded: Record, mem: &mut [u32], marker: u8, f: Frame, time: u16) -> After
-    requires { CanTell s (length mem.old) × InFields f }
+fn keep_event(s: State, recorded: Record, mem: &mut [u32], e: Event) -> After
+    requires { CanTell s (length mem.old) × InFields e.frame }
     ensures { world result.state result.recorded mem.new
-        ≡ event_kept (world s recorded mem.old) marker f time }
+        ≡ event_kept (world s recorded mem.old) e.marker e.frame e.time }
 {
     let kept = event_keeper(s.regs).keep(s.events, recorded);
-    write_event(mem, event_area(s.regs), kept.slot, marker, f, time);
+    write_event(mem, event_area(s.regs), kept.slot, e);
     After {
         state: s.with_events(kept.ring),
         recorded: kept.recorded,
@@ -70,8 +70,12 @@ pub fn tell_event(
 {
     let h = header_at(mem, tx_area(s.regs), buffer);
     if h.wish {
-        let f = form_sent(s.regs, h.frame, passive);
-        return keep_event(s, recorded, mem, h.marker, f, time);
+        let e = Event {
+            frame: form_sent(s.regs, h.frame, passive),
+            marker: h.marker,
+            time,
+        };
+        return keep_event(s, recorded, mem, e);
     }
     After { state: s, recorded }
 }

@@ -12,11 +12,10 @@ ghost use Rattle.reporting.specs.Needs.{Reportable};
 
 use crate::event::tell_event;
 use crate::judging::judge_report;
-use choosing::buffers::in_shared_fifo;
 use engine::flags::{SENT, TX_FIFO_EMPTIED};
 use engine::refusals::Refusal;
 use engine::state::{After, Record, State};
-use ring::{Circle, Ring};
+use ring::Ring;
 use words::bits;
 
 // The shared ring after the send of a buffer: its head moves where the buffer is in it.
@@ -25,12 +24,8 @@ fn shared_sent(s: State, buffer: u32) -> Ring
     requires { Fit s.shared (shared_ring_size s.regs) × (is_candidate s buffer ≡ true) }
     ensures { result ≡ shared_sent s buffer }
 {
-    if in_shared_fifo(s.regs, buffer) {
-        let q = Circle {
-            ring: s.shared,
-            size: s.regs.txbc.shared(),
-        };
-        return q.release_through(s.shared.oldest);
+    if s.regs.in_shared_fifo(buffer) {
+        return s.shared_circle().release_through(s.shared.oldest);
     }
     s.shared
 }
@@ -69,7 +64,7 @@ fn report(
         ≡ reports (world s recorded mem.old) buffer passive time }
 {
     let next = shared_sent(s, buffer);
-    let emptied = in_shared_fifo(s.regs, buffer) && next.fill == 0;
+    let emptied = s.regs.in_shared_fifo(buffer) && next.fill == 0;
     tell_event(
         with_sent(s, next, buffer),
         sent_flags(recorded, emptied),

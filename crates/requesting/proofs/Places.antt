@@ -18,10 +18,9 @@ use Rattle.ring.specs.declared.Ring.{Ring}
 use Rattle.ring.proofs.Places.{place_lt}
 use Rattle.registers.specs.Fields.{dedicated, shared, is_queue}
 use Rattle.engine.specs.Buffers.{is_pending}
-use Rattle.engine.specs.Fitness.{shared_ring_size, Sound}
+use Rattle.engine.specs.Fitness.{Sound}
 use Rattle.engine.specs.declared.state.State.{State}
-use Rattle.engine.proofs.Cases.{fifo_ring_is}
-use Rattle.requesting.specs.Needs.{QueueFits, CanFindPlace, SharedRoom}
+use Rattle.requesting.specs.Needs.{QueueFits, CanFindPlace}
 use Rattle.requesting.specs.Places.{queue_place, fifo_place, free_place}
 
 -- ---- a queue's, of plain numbers
@@ -102,14 +101,6 @@ can_find s words h = record { few = h.legal.counted.together; bits = h.pending; 
 pub queue_fits : (s : State) → CanFindPlace s → QueueFits s.pending (dedicated s.regs) (shared s.regs)
 queue_fits s h = record { few = h.few; bits = h.bits }
 
--- in FIFO mode the shared ring has a place for each shared buffer
-shared_fits : (s : State) → is_queue s.regs ≡ false → Fit s.shared (shared_ring_size s.regs)
-    → Fit s.shared (shared s.regs)
-shared_fits s e h = rw (fifo_ring_is s.regs (is_queue s.regs) refl e (shared s.regs) refl) h
-
-pub fifo_fits : (s : State) → CanFindPlace s → is_queue s.regs ≡ false → Fit s.shared (shared s.regs)
-fifo_fits s h e = shared_fits s e h.ring
-
 -- the two ways of a free place
 module _ (s : State) where
   pub free_queue : is_queue s.regs ≡ true
@@ -129,8 +120,3 @@ module _ (s : State) where
       (λ (p : ℕ). free_place s ≡ p
       → (s.shared.fill < shared s.regs) × (free_place s ≡ put_place s.shared (shared s.regs)))
       (λ l q. (l, q)) (λ q. absurd (omega arith)) (free_fifo e)
-
--- ---- the ring after a request
-
-pub push_fits : (s : State) → SharedRoom s → is_queue s.regs ≡ false → Fit s.shared (shared s.regs)
-push_fits s h e = shared_fits s e h.ring

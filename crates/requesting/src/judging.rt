@@ -67,7 +67,7 @@ pub fn judge_cancel(s: State, recorded: Record, mem: &[u32], buffer: u32) -> Res
     if s.regs.tx_count() <= buffer {
         return Err(Refusal::NoSuch);
     }
-    if s.regs.txbc.dedicated() <= buffer && !s.regs.is_queue() {
+    if s.regs.in_shared_fifo(buffer) {
         return Err(Refusal::InSharedFifo);
     }
     if !bits::test(s.pending, buffer) {

@@ -12,9 +12,8 @@ ghost use Rattle.requesting.specs.Requesting.{written, request_dedicated, reques
 
 use crate::judging::{judge_dedicated, judge_shared};
 use crate::sharing::shared_after;
-use areas::{data_words, tx_area};
+use areas::{element_in, tx_area};
 use element::TxHeader;
-use element::memory::Element;
 use engine::refusals::Refusal;
 use engine::state::{Record, State};
 use places::Area;
@@ -34,11 +33,7 @@ fn write_request(mem: &mut [u32], a: Area, buffer: u32, h: TxHeader, bytes: &[u8
     requires { HasPlace a buffer (length mem.old) × InFields h.frame }
     ensures { mem.new ≡ written mem.old a buffer h bytes.now }
 {
-    let element = Element {
-        at: a.place_in(buffer, mem.len()),
-        words: data_words(a),
-    };
-    element.store_tx(mem, h, bytes)
+    element_in(a, buffer, mem.len()).store_tx(mem, h, bytes)
 }
 
 // The buffer is pending, and neither sent nor cancelled.

@@ -28,39 +28,34 @@ fn fifo_place(q: Circle) -> Option<u32>
     ensures { result ≡ below q.size (fifo_place q.ring q.size) }
 {
     if q.ring.fill < q.size {
-        return Some(q.put_place());
+        Some(q.put_place())
+    } else {
+        None
     }
-    None
 }
 
 // The place in the shared part that a request takes, if one is free.
-#[tactic(auto, using(crate::proofs::Places::queue_fits, crate::proofs::Places::fifo_fits), unfolding(crate::specs::Places::free_place))]
+#[tactic(auto, using(crate::proofs::Places::queue_fits), unfolding(crate::specs::Places::free_place, engine::specs::Fitness::shared_ring_size))]
 pub fn free_place(s: State) -> Option<u32>
     requires { CanFindPlace s }
     ensures { result ≡ below (shared s.regs) (free_place s) }
 {
-    let shared = s.regs.txbc.shared();
     if s.regs.is_queue() {
-        return queue_place(s.pending, s.regs.txbc.dedicated(), shared);
+        queue_place(s.pending, s.regs.txbc.dedicated(), s.regs.txbc.shared())
+    } else {
+        fifo_place(s.shared_circle())
     }
-    fifo_place(Circle {
-        ring: s.shared,
-        size: shared,
-    })
 }
 
 // A queue has no ring: its pending bits say all.
-#[tactic(auto, using(crate::proofs::Places::push_fits))]
+#[tactic(auto, unfolding(engine::specs::Fitness::shared_ring_size))]
 pub fn shared_after(s: State) -> Ring
     requires { SharedRoom s }
     ensures { result ≡ shared_after s }
 {
     if s.regs.is_queue() {
-        return s.shared;
+        s.shared
+    } else {
+        s.shared_circle().push()
     }
-    let q = Circle {
-        ring: s.shared,
-        size: s.regs.txbc.shared(),
-    };
-    q.push()
 }

@@ -1,12 +1,10 @@
 -- The cases of what is judged, one law each, and what is known where nothing is against a call.
 -- Assumes nothing.
-use Rattle.std.proofs.Common.{Result, Ok, Err}
-use Rattle.engine.specs.declared.refusals.Refusal.{Refusal}
 use Prim.Native.Nat.{ℕ, ◌≤◌, ◌<◌}
-use mathlib.Core.Path.{◌≡◌, sym, ap, ap₂, ◌∙◌}
-use mathlib.Core.Bool.{Bool, true, false}
+use mathlib.Core.Path.{◌≡◌, sym}
+use mathlib.Core.Bool.{true, false}
 use mathlib.Core.List.{List}
-use borrow.Author.Tests.{lt-ltb, le-ltb, le-leb, lt-leb, ltb-false, leb-false, not-false}
+use borrow.Author.Tests.{ltb-false, leb-false, not-false}
 use native.Mathlib.Omega.{arith}
 use lib.Dec.{ltb, leb}
 use lib.ListN.{length}
@@ -15,12 +13,9 @@ use Rattle.words.specs.Rules.{allowed, first}
 use Rattle.words.proofs.Choices.{or_neither}
 use Rattle.words.proofs.Rulings.{all_three}
 use Rattle.ring.specs.Rings.{Fit, held}
-use Rattle.ring.specs.declared.Ring.{Ring}
 use Rattle.ring.proofs.Holding.{held_inside}
 use Rattle.places.specs.Areas.{HasPlace}
-use Rattle.registers.specs.Fields.{fifo_word, fifo_size, buffers}
-use Rattle.registers.specs.Kinds.{field, rxfc_count}
-use Rattle.registers.specs.declared.kinds.Rxfc.{Rxfc}
+use Rattle.registers.specs.Fields.{fifo_size, buffers}
 use Rattle.layout.specs.Verdict.{plain}
 use Rattle.areas.specs.Areas.{fifo_area, buffer_area}
 use Rattle.areas.proofs.Rooms.{fifo_roomy, buffer_roomy}
@@ -28,7 +23,6 @@ use Rattle.engine.specs.Calls.{World, world, ◌when◌, is_unfit, output_refusa
 use Rattle.engine.specs.Fitness.{unfit}
 use Rattle.engine.specs.Needs.{HoldsPlace}
 use Rattle.engine.specs.States.{fifo_ring}
-use Rattle.engine.specs.declared.refusals.Refusal.TheVariants.{Unfit, NoSuch, NotHeld}
 use Rattle.engine.specs.declared.state.State.{State}
 use Rattle.engine.specs.declared.state.Record.{Record}
 use Rattle.engine.proofs.Sounds.{sound_of, found_sound, ring_fits}

@@ -11,9 +11,8 @@ ghost use Rattle.taking.specs.Needs.{CanRead};
 ghost use Rattle.taking.specs.Reading.{read_fifo, read_buffer};
 
 use crate::judging::{judge_buffer, judge_fifo};
-use areas::{buffer_area, data_words, fifo_area};
+use areas::{buffer_area, element_in, fifo_area};
 use element::RxRead;
-use element::memory::Element;
 use engine::refusals::{Refusal, judge_output};
 use engine::state::{Record, State};
 use places::Area;
@@ -25,11 +24,7 @@ fn read_in(mem: &[u32], a: Area, place: u32, out: &mut [u8]) -> RxRead
         × (out.new
         ≡ splice out.old 0 (read_bytes mem.now (place_in a place) (data_words a))) }
 {
-    let element = Element {
-        at: a.place_in(place, mem.len()),
-        words: data_words(a),
-    };
-    element.read_rx(mem, out)
+    element_in(a, place, mem.len()).read_rx(mem, out)
 }
 
 // Reads the element at a held place of a FIFO.

@@ -31,6 +31,7 @@ fn word_of(bytes: &[u8], k: usize) -> u32
 }
 
 // The same where all its four bytes are there: no test of each.
+// Beside word_of: tried with word_of alone, and a store of 64 bytes took 487 instructions in place of 85.
 #[tactic(auto, unfolding(crate::specs::Bytes::word_of))]
 fn whole_word(bytes: &[u8], k: usize) -> u32
     requires { 4 * k + 4 ≤ length bytes.now }
@@ -41,6 +42,8 @@ fn whole_word(bytes: &[u8], k: usize) -> u32
 }
 
 // Fills words with the first of the data, which has all their bytes.
+// Beside fill_rest: tried with one and a test for each word, and that store took 166 instructions in place of 85.
+// Tried with chunks_exact(4): the proof didn't close, since nothing is known of what a zip of iter_mut wrote.
 #[tactic(auto, using(crate::proofs::Runs::filled))]
 fn fill_whole(words: &mut [u32], bytes: &[u8])
     requires { 4 * length words.old ≤ length bytes.now }
@@ -90,6 +93,8 @@ fn put_bytes(out: &mut [u8], i: usize, word: u32)
 }
 
 // Writes the bytes of the words to the front of out.
+// Beside fill_bytes: tried with fill_bytes alone, and a load of 64 bytes took 598 instructions in place of 87.
+// Tried with chunks_exact_mut(4): the proof didn't close, since nothing is known of what was written through it.
 fn put_words(words: &[u32], out: &mut [u8])
     requires { 4 * length words.now ≤ length out.old }
     ensures { out.new ≡ splice out.old 0 (run (byte_in words.now 0) 0 (4 * length words.now)) }
