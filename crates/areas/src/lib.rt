@@ -22,6 +22,7 @@ fn area_in(s: Section, count: u32, each: u32) -> Area
     }
 }
 
+// Each area by its own register, as layout's sections: one function for several would be no plainer.
 pub fn fifo_area(r: Registers, number: u32) -> Area
     ensures { result ≡ fifo_area r number }
 {

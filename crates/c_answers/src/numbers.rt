@@ -49,7 +49,7 @@ impl From<CRefusal> for u32 {
     }
 }
 
-// 0 where the call is done.
+// 0 where the call is done: the C interface.
 pub fn number_of(done: Result<(), CRefusal>) -> u32
     ensures { result ≡ code done }
 {
@@ -59,7 +59,7 @@ pub fn number_of(done: Result<(), CRefusal>) -> u32
     }
 }
 
-// A filter element: its index + 1, 0 for none.
+// A filter element: its index + 1, 0 for none: the C interface.
 pub fn filter_number(m: Option<u32>) -> u32
     requires { index_of m < 128 }
     ensures { result ≡ filter_number m }

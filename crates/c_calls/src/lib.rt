@@ -1,4 +1,5 @@
-// The handler for C: every call on numbers and slices of words, under a name of its own.
+// The handler for C: every call on numbers and slices of words, under a name of its own, with a number for the Result:
+// the C interface.
 #![tactic(auto)]
 
 ghost use Rattle.std.specs.Prelude.{◌≡◌, []};

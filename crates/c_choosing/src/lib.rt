@@ -1,4 +1,4 @@
-// Calls 10 and 11 on words.
+// Calls 10 and 11 on words, each as `c_entering` says.
 #![tactic(auto)]
 
 ghost use Rattle.std.specs.Prelude.{◌≡◌, []};

@@ -1,4 +1,4 @@
-// Calls 2 to 6 on words.
+// Calls 2 to 6 on words, each as `c_entering` says.
 #![tactic(auto)]
 
 pub mod reads;

@@ -1,4 +1,4 @@
-// Calls 7, 8, 9, 12 and 13 on words.
+// Calls 7, 8, 9, 12 and 13 on words, each as `c_entering` says.
 #![tactic(auto)]
 
 pub mod cancels;

@@ -62,7 +62,7 @@ fn take_ring(words: &[u32], at: usize) -> Ring
     }
 }
 
-// 64 bits of two words, the lower first.
+// 64 bits of two words, the lower first: std has no From of two words.
 fn joined(low: u32, high: u32) -> u64
     ensures { result ≡ low + high * 2 ^ 32 }
 {
@@ -93,7 +93,8 @@ pub fn take_any_state(words: &[u32]) -> State
     }
 }
 
-// The same state: it says more (packed again it gives these words), of fewer words, so it is a function of its own.
+// The same state, where packed again it gives these words. Beside `take_any_state`: what may not change, this clause,
+// and that a start takes any words.
 #[tactic(auto, using(crate::proofs::Inverse::taken_back))]
 pub fn take_state(words: &[u32]) -> State
     requires { StateWords words.now }

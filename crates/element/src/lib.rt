@@ -7,7 +7,7 @@ pub mod unpack;
 
 use frame::Frame;
 
-// What a receive stores. The frame's bytes are lent beside it.
+// What a receive stores. The frame's bytes are lent beside it: what may not change, calls 2, 7 and 8 take them apart.
 #[derive(Clone, Copy)]
 pub struct Arrival {
     pub frame: Frame,

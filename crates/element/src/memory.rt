@@ -10,8 +10,8 @@ ghost use Rattle.element.specs.Bytes.{rx_read, read_bytes, sent_from};
 use crate::{Arrival, Event, EventHeader, RxRead, TxHeader, pack, unpack};
 use words::WordAddress;
 
-// An element: where its first word stands, and how many data words it has. That a memory has it is asked by each method
-// and is no invariant, which would be no plainer: reads are lent the memory as `&`, stores as `&mut`.
+// An element: where its first word stands, and how many data words it has. That a memory has it is asked by each
+// method and is no invariant, which would be no plainer: reads are lent the memory as `&`, stores as `&mut`.
 #[derive(Clone, Copy)]
 pub struct Element {
     pub at: WordAddress,
@@ -86,7 +86,7 @@ impl Element {
     }
 }
 
-// Stores an event.
+// Stores an event. That the memory has it is asked here and below, as of an Element.
 #[tactic(auto, using(crate::proofs::Storing::event_stored))]
 pub fn store_event(mem: &mut [u32], at: WordAddress, e: Event)
     requires { (at.0 + 2 ≤ length mem.old) × InFields e.frame }

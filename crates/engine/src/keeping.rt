@@ -15,8 +15,8 @@ pub struct Kept {
     pub recorded: Record,
 }
 
-// A ring of this size, watermark and mode, whose flags start at `first`. The size is here and in no Circle: what may not
-// change, `keep_rule` reads it here.
+// A ring of this size, watermark and mode, whose flags start at `first`. The size is here and in no Circle: what may
+// not change, `keep_rule` reads it here. That `first` is small is asked and no invariant: two callers, both constants.
 #[derive(Clone, Copy)]
 pub struct Keeper {
     pub size: u32,

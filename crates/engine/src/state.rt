@@ -9,7 +9,8 @@ use crate::fitness::shared_ring_size;
 use registers::Registers;
 use ring::{Circle, Ring};
 
-// Everything else is worked out from these.
+// Everything else is worked out from these. That it is fit is no invariant: what may not change, calls take any state
+// and answer 20 (`judge_fit`); helpers ask for the part that they need.
 #[derive(Clone, Copy)]
 pub struct State {
     // the registers as given to the start
@@ -34,8 +35,8 @@ pub struct Record {
     pub priority: u32,
 }
 
-// What a call leaves of both. Calls take the two apart, as the C interface lends them, since interrupt code changes the
-// record in place; and the memory now as `&`, now as `&mut`.
+// What a call leaves of both. Calls take the two apart, as the C interface lends them, since interrupt code changes
+// the record in place; and the memory now as `&`, now as `&mut`.
 #[derive(Clone, Copy)]
 pub struct After {
     pub state: State,
@@ -73,7 +74,7 @@ impl State {
         ))
     }
 
-    // The ring of FIFO 0 or 1.
+    // The ring of FIFO 0 or 1: a number, as in Registers, what may not change (`fifo_ring`).
     #[tactic(auto, unfolding(crate::specs::States::fifo_ring))]
     pub fn fifo_ring(self, fifo: u32) -> Ring
         ensures { result ≡ fifo_ring self fifo }

@@ -38,7 +38,7 @@ impl From<Reason> for u32 {
 }
 
 // Where a frame goes, with the index of the element that matched it, if one did.
-// FIFO 0 or 1 is a number, as calls 3 and 4 take it: what may not change.
+// FIFO 0 or 1 is a number, as calls 3 and 4 take it, and flags are worked out from it: an enum would be no plainer.
 #[derive(Clone, Copy)]
 pub enum Destination {
     // to FIFO 0 or 1, and whether with priority

@@ -1,5 +1,6 @@
 // The public face: the fifteen calls in the paper's order.
-// The contract of each is that what it returns means what its definition says.
+// The contract of each is that what it returns means what its definition says. Beside the functions of the calls'
+// crates: what may not change, docs/CALLS.md names both.
 #![tactic(auto)]
 
 ghost use Rattle.engine.specs.Calls.{world};

@@ -11,7 +11,7 @@ ghost use Rattle.inplace.specs.Taking.{taken, without_flags};
 use engine::state::Record;
 use words::bits;
 
-// The flags of a mask are set; the priority stays.
+// The flags of a mask are set; the priority stays. No method, since Record is of another crate.
 #[tactic(auto, unfolding(crate::specs::Raising::raised_mask))]
 pub fn raise_mask(r: Record, mask: u32) -> Record
     ensures { result ≡ raised_mask r mask }

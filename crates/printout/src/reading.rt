@@ -7,7 +7,8 @@ use registers::Registers;
 // The length of the memory of document 01's bench cases.
 pub(crate) const BENCH_WORDS: u32 = 2560;
 
-// The number that eight hex digits write, the most significant first, where a newline follows them.
+// The number that eight hex digits write, the most significant first, where a newline follows them. Not
+// `from_str_radix`, which reads a sign: what may not change, `readable` refuses one.
 fn number_on(line: &[u8]) -> Option<u32>
     requires { length line.now ≡ 9 }
     ensures { SomeIff result (LineRead line.now) (number_from line.now 0 8) }

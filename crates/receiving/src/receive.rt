@@ -19,7 +19,7 @@ use frame::Frame;
 use words::bits;
 
 // What became of a frame, with the filter element that matched it, if one did.
-// FIFO 0 or 1 is a number, as calls 3 and 4 take it: what may not change.
+// FIFO 0 or 1 is a number, as calls 3 and 4 take it, and flags are worked out from it: an enum would be no plainer.
 #[derive(Clone, Copy)]
 pub enum Received {
     // in a FIFO, at a place
@@ -31,7 +31,7 @@ pub enum Received {
     Discarded(Reason, Option<u32>),
 }
 
-// What became of it, and what is left. Its own struct beside engine's After and starting's Started: one for all would
+// What became of it, and what is left. Its own struct beside After, Started and AfterRequest: one for all would
 // be no plainer, since each answer has its name in the handler.
 #[derive(Clone, Copy)]
 pub struct AfterReceive {

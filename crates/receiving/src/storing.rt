@@ -26,7 +26,8 @@ pub fn store_at(mem: &mut [u32], area: Area, place: u32, a: Arrival, bytes: &[u8
     element_in(area, place, mem.len()).store_rx(mem, a, bytes)
 }
 
-// Stores an arrival in a slot, if that has a place.
+// Stores an arrival in a slot, if that has a place, as reporting does an event: one for both, with a closure for a
+// line, would be no plainer.
 pub fn put(mem: &mut [u32], area: Area, slot: Option<u32>, a: Arrival, bytes: &[u8])
     requires { CanPut area slot a (length mem.old) }
     ensures { mem.new

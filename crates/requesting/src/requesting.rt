@@ -20,7 +20,7 @@ use places::Area;
 use ring::Ring;
 use words::bits;
 
-// The buffer that the request is in, and the state with it.
+// The buffer that the request is in, and the state with it: its own struct, as AfterReceive.
 #[derive(Clone, Copy)]
 pub struct AfterRequest {
     pub buffer: u32,

@@ -14,7 +14,7 @@ use layout::check::{LayoutRefusal, judge};
 use layout::sections::Section;
 use registers::Registers;
 
-// The seven sections, and an empty state and record.
+// The seven sections, and an empty state and record: its own struct, as AfterReceive.
 #[derive(Clone, Copy)]
 pub struct Started {
     pub sections: [Section; 7],

@@ -124,7 +124,7 @@ pub fn clear_mask<W: Word>(word: W, mask: W) -> W
     word & !mask
 }
 
-// The number of the lowest clear bit: 32 where all are set.
+// The number of the lowest clear bit: 32 where all are set, and no Option: what may not change, `LowestClear`.
 #[tactic(auto, using(crate::proofs::BitLaws::lowest))]
 pub fn lowest_clear(word: u32) -> u32
     ensures { LowestClear 32 word result }

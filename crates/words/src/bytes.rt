@@ -76,7 +76,7 @@ pub fn store(mem: &mut [u32], at: WordAddress, n: usize, bytes: &[u8])
     fill_rest(&mut mem[start + whole..start + n], whole, bytes)
 }
 
-// Byte j of a word.
+// Byte j of a word. Not `to_le_bytes`: what may not change, its clause for each j.
 pub fn byte_of(word: u32, j: usize) -> u8
     requires { j < 4 }
     ensures { result ≡ byte_of word j }

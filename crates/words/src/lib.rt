@@ -12,7 +12,7 @@ ghost use Rattle.words.specs.Choice.{pick};
 pub struct WordAddress(pub u32);
 
 // Yes or no as a bit of a word: 1 where it is set.
-// Beside `u32::from`: its contract says `pick` and that it is below 2.
+// Beside `u32::from`: what may not change, its clause says `pick` and that it is below 2.
 pub fn bit_of(b: bool) -> u32
     ensures { (result ≡ pick b 1 0) × (result < 2) }
 {
