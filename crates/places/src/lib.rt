@@ -8,8 +8,9 @@ ghost use Rattle.places.specs.Slots.{take_rule};
 use ring::{Circle, Ring};
 use words::WordAddress;
 
-// So many elements of so many words each, from a word of the memory on. That a place is in the memory is asked at each
-// use and is no invariant, which would be no plainer: the memory is lent apart, now as `&`, now as `&mut`.
+// So many elements of so many words each, from a word of the memory on: a start and a count, since the memory is lent
+// (no heap). That a place is in it is asked at each use and is no invariant, which would be no plainer: the memory comes
+// now as `&`, now as `&mut`.
 #[derive(Clone, Copy)]
 pub struct Area {
     pub start: WordAddress,

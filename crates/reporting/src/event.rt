@@ -30,7 +30,7 @@ fn event_keeper(r: Registers) -> Keeper
     }
 }
 
-// Writes an event to its slot, if it has one.
+// Writes an event to its slot, if it has one, as receiving's `put` does an arrival: one for both would be no plainer.
 fn write_event(mem: &mut [u32], a: Area, slot: Option<u32>, e: Event)
     requires { EventFits a (length mem.old) slot e.frame }
     ensures { mem.new ≡ slot_memory mem.old a (event_element e.marker e.frame e.time) slot }
