@@ -13,7 +13,7 @@ ghost use Rattle.registers.specs.Kinds.{txesc, txesc_size, gfc, gfc_anfs, gfc_an
 use crate::field::Field;
 use words::{WordAddress, bit_of};
 
-// A register, as its word.
+// A register, as its word. Each impl says `value`, `legal` and `word`: a default here is refused, for it names no member.
 pub trait Register: Copy {
     // What it is after a reset.
     const RESET: u32;
