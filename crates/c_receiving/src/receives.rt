@@ -29,8 +29,8 @@ pub fn receive(
 {
     let (s, r) = enter_frame(state, recorded, frame, answer.len())?;
     let after = receiving::receive::receive(s, r, mem, take_frame(frame), bytes, time)?;
+    put(answer, 0, &fate_words(after.answer));
     put_state(state, after.state);
     put_record(recorded, after.recorded);
-    put(answer, 0, &fate_words(after.answer));
     Ok(())
 }

@@ -7,9 +7,8 @@ ghost use Rattle.c_requesting.specs.RequestingCalls.{request_dedicated_call, req
 use c_answers::numbers::CRefusal;
 use c_entering::entering::{enter_frame, yes_no};
 use c_words::buffers::put;
-use c_words::frames::take_frame;
+use c_words::frames::take_request;
 use c_words::states::put_state;
-use element::TxHeader;
 use requesting::requesting as calls;
 
 // Requests a dedicated buffer.
@@ -32,14 +31,11 @@ pub fn request_dedicated(
         buffer frame.now bytes.now marker wish }
 {
     let (s, r) = enter_frame(state, recorded, frame, answer.len())?;
-    let h = TxHeader {
-        frame: take_frame(frame),
-        marker,
-        wish: yes_no(wish)?,
-    };
+    yes_no(wish)?;
+    let h = take_request(frame, marker, wish);
     let after = calls::request_dedicated(s, r, mem, buffer, h, bytes)?;
-    put_state(state, after.state);
     put(answer, 0, &[after.buffer]);
+    put_state(state, after.state);
     Ok(())
 }
 
@@ -62,13 +58,10 @@ pub fn request_shared(
         frame.now bytes.now marker wish }
 {
     let (s, r) = enter_frame(state, recorded, frame, answer.len())?;
-    let h = TxHeader {
-        frame: take_frame(frame),
-        marker,
-        wish: yes_no(wish)?,
-    };
+    yes_no(wish)?;
+    let h = take_request(frame, marker, wish);
     let after = calls::request_shared(s, r, mem, h, bytes)?;
-    put_state(state, after.state);
     put(answer, 0, &[after.buffer]);
+    put_state(state, after.state);
     Ok(())
 }

@@ -1,9 +1,10 @@
-// A frame as words, and back: by functions and no `From`, which would be no plainer: it would stand in
+// A frame and a request as words, and back: by functions and no `From`, which would be no plainer: it would stand in
 // the crates below, which know of no C words.
 ghost use Rattle.std.specs.Prelude.{◌≡◌, length};
-ghost use Rattle.c_words.specs.Frames.{plain_frame, unpack_frame, pack_frame};
+ghost use Rattle.c_words.specs.Frames.{plain_frame, unpack_frame, pack_frame, unpack_request};
 
 use crate::buffers::is_yes_no;
+use element::TxHeader;
 use frame::Frame;
 use words::bit_of;
 
@@ -44,4 +45,16 @@ pub fn pack_frame(f: Frame) -> [u32; 7]
         bit_of(f.esi),
         f.dlc,
     ]
+}
+
+// What a request brings.
+pub fn take_request(words: &[u32], marker: u8, wish: u32) -> TxHeader
+    requires { length words.now ≡ 7 }
+    ensures { result ≡ unpack_request words.now marker wish }
+{
+    TxHeader {
+        frame: take_frame(words),
+        marker,
+        wish: wish == 1,
+    }
 }

@@ -1,25 +1,22 @@
--- The scan: min_by_key over the candidates, in the order of their numbers, gives the choice; and what is known of it.
+-- The scan: reduce over the candidates, in the order of their numbers, gives the choice; and what is known of it.
 -- Assumes nothing.
 use Rattle.std.specs.List.{FoldsTo, filter, range_with_len}
-use Rattle.std.specs.Fn.{CalledAt, TakesAt}
-use Rattle.std.specs.Iterator.{Drains, KeyTurn, CallableInMinByKey, PicksMinByKey}
-use Rattle.std.specs.Ordering.{nat_cmp, min_by_ordering}
-use Rattle.std.proofs.Common.{Option, Some, None, Ordering, Less, Equal, Greater}
-use Rattle.std.proofs.lemmas.Cmp.{ranked}
+use Rattle.std.specs.Fn.{Called, Takes}
+use Rattle.std.specs.Iterator.{AlwaysYields, Yields, Drains, FoldTurn, AfterFirst, CallableInFold, ReducesItems}
+use Rattle.std.proofs.Common.{Option, Some, None}
 use Rattle.std.proofs.lemmas.Iterator.{YieldsList, items_from_drains}
-use Rattle.std.proofs.lemmas.Iterator.Consumers.{YieldsList-turn}
-use Prim.Native.Nat.{ℕ, zero, suc, ◌+◌, ◌<◌}
-use mathlib.Core.Path.{◌≡◌, refl, sym, ap, ap₂, subst, ◌∙◌}
+use Prim.Native.Nat.{ℕ, zero, suc, ◌+◌, ◌<◌, ◌≤◌}
+use mathlib.Core.Path.{◌≡◌, refl, sym, ap, subst, ◌∙◌}
 use mathlib.Core.Bool.{Bool, cond, true, false}
 use mathlib.Core.List.{List, [], ◌∷◌, map, map-id}
 use native.Mathlib.Omega.{arith}
-use borrow.Author.Tests.{le-ltb, lt-ltb}
-use denote.Ref.{Bor}
 use denote.Param.Members.{Mut}
-use lib.ListN.{length, get_or}
+use lib.Dec.{ltb}
+use lib.ListN.{length}
 use Rattle.words.specs.Best.{Best, nobody, somebody, better, best_below}
 use Rattle.words.specs.Rules.{allowed, first}
 use Rattle.words.proofs.Bests.{best_wins, best_start, best_turn}
+use Rattle.words.specs.Choice.{pick}
 use Rattle.words.proofs.Choices.{pick_first, pick_second}
 use Rattle.registers.specs.Fields.{tx_count}
 use Rattle.places.specs.declared.Area.{Area}
@@ -60,89 +57,96 @@ module _ (candidate : ℕ → Bool) (rank : ℕ → ℕ) where
           (best_turn candidate rank a m e (better rank m a) (sym (pick_first (better rank m a) m t)))
       go on false t = on m (best_turn candidate rank a m e m (sym (pick_second (better rank m a) m t)))
 
-  -- each of the list is in the range
-  pub inside : (n a k z : ℕ) → k < length (filter candidate (range_with_len a n))
-      → z ≡ get_or (filter candidate (range_with_len a n)) k z → z < a + n
-  inside zero a k z l e = absurd (omega (arith, l))
-  inside (suc n) a k z l e = go (λ i m q. inside n (a + 1) i z m q) (candidate a) k l e
+  -- each of a list is below b, as the candidates among the first numbers are
+  abbrev pub AllBelow : ℕ → List ℕ → Type 0
+  AllBelow b [] = Unit {0}
+  AllBelow b (x ∷ xs) = (x < b) × AllBelow b xs
+
+  pub inside : (n a b : ℕ) → a + n ≤ b → AllBelow b (filter candidate (range_with_len a n))
+  inside zero a b l = tt
+  inside (suc n) a b l = go (inside n (a + 1) b (omega (arith, l))) (candidate a)
     where
       rest : List ℕ
       rest = filter candidate (range_with_len (a + 1) n)
 
-      go : ((i : ℕ) → i < length rest → z ≡ get_or rest i z → z < a + 1 + n) → (b : Bool) (i : ℕ)
-          → i < length (cond b (a ∷ rest) rest) → z ≡ get_or (cond b (a ∷ rest) rest) i z → z < a + suc n
-      go on false i m q = omega (arith, on i m q)
-      go on true zero m q = omega (arith, q)
-      go on true (suc i) m q = omega (arith, on i (omega (arith, m)) q)
+      go : AllBelow b rest → (t : Bool) → AllBelow b (cond t (a ∷ rest) rest)
+      go on true = (omega (arith, l), on)
+      go on false = on
 
-  -- what is kept of two is what is better
-  turned : (x z : ℕ) (o : Ordering) → nat_cmp (rank x) (rank z) ≡ o
-      → somebody (min_by_ordering o x z) ≡ better rank (somebody x) z
-  turned x z Less e =
-      sym (pick_second (somebody z) (somebody x)
-      (le-ltb (rank z) (rank x) (omega (arith, ranked (rank x) (rank z) Less (sym e)))))
-  turned x z Equal e =
-      sym (pick_second (somebody z) (somebody x)
-      (le-ltb (rank z) (rank x) (omega (arith, ranked (rank x) (rank z) Equal (sym e)))))
-  turned x z Greater e =
-      sym (pick_first (somebody z) (somebody x)
-      (lt-ltb (rank z) (rank x) (omega (arith, ranked (rank x) (rank z) Greater (sym e)))))
+  abbrev number : Best → ℕ
+  number nobody = 0
+  number (somebody n) = n
 
-  key_kept : (x z : ℕ) (o : Ordering) → min_by_ordering o (rank x) (rank z) ≡ rank (min_by_ordering o x z)
-  key_kept x z Less = refl
-  key_kept x z Equal = refl
-  key_kept x z Greater = refl
+  module _ {F : Type 0} (g : Mut F (ℕ × (ℕ × Unit {0})) ℕ) (f : F)
+      (so : (m x k : ℕ) (q : F) → Called g f (m, (x, tt)) k q → (q ≡ f) × (somebody k ≡ better rank (somebody m) x)) where
+    -- one turn, from the closure as it was
+    turned : (p n : F × ℕ) (x : ℕ) → p.0 ≡ f → FoldTurn g p x n → (n.0 ≡ f) × (somebody n.1 ≡ better rank (somebody p.1) x)
+    turned p n x a c = so p.1 x n.1 n.0 (subst (λ w. Called g w (p.1, (x, tt)) n.1 n.0) a c)
 
-  module _ {F : Type 0} (g : Mut F (Bor ℕ × Unit {0}) ℕ) (f : F)
-      (so : (x k : ℕ) (q : F) → CalledAt g f x k q → (q ≡ f) × (k ≡ rank x)) where
-    folded : (xs : List ℕ) (p q : (F × ℕ) × ℕ) → p.0.0 ≡ f → p.0.1 ≡ rank p.1
-        → FoldsTo {P = (F × ℕ) × ℕ} (KeyTurn min_by_ordering min_by_ordering g nat_cmp) p xs q
+    folded : (xs : List ℕ) (p q : F × ℕ) → p.0 ≡ f → FoldsTo {P = F × ℕ} (FoldTurn g) p xs q
         → somebody q.1 ≡ scan (somebody p.1) xs
-    folded [] p q a b c = ap (λ (w : (F × ℕ) × ℕ). somebody w.1) (sym c)
-    folded (z ∷ xs) p q a b c =
-        let n = c.0 in
-        let k = c.1.0 in
-        let o = c.1.1 in
-        let t = so z k n.0.0 (subst (λ w. CalledAt g w z k n.0.0) a c.1.2) in
-        let e : nat_cmp (rank p.1) (rank z) ≡ o = ap₂ nat_cmp (sym b) (sym t.1) ∙ c.1.3 in
-        let key : n.0.1 ≡ rank n.1 =
-        c.1.4 ∙ ap₂ (min_by_ordering o) b t.1 ∙ key_kept p.1 z o ∙ ap rank (sym c.1.5) in
-        folded xs n q t.0 key c.2 ∙ ap (λ m. scan m xs) (ap somebody c.1.5 ∙ turned p.1 z o e)
+    folded [] p q a c = ap (λ (w : F × ℕ). somebody w.1) (sym c)
+    folded (x ∷ xs) p q a c =
+        let t = turned p c.0 x a c.1 in
+        folded xs c.0 q t.0 c.2 ∙ ap (λ m. scan m xs) t.1
 
-    stays : (xs : List ℕ) (p q : (F × ℕ) × ℕ) → p.0.0 ≡ f
-        → FoldsTo {P = (F × ℕ) × ℕ} (KeyTurn min_by_ordering min_by_ordering g nat_cmp) p xs q → q.0.0 ≡ f
-    stays [] p q a c = ap (λ (w : (F × ℕ) × ℕ). w.0.0) (sym c) ∙ a
-    stays (z ∷ xs) p q a c =
-        stays xs c.0 q (so z c.1.0 c.0.0.0 (subst (λ w. CalledAt g w z c.1.0 c.0.0.0) a c.1.2)).0 c.2
+    -- of two numbers below b the one that is kept is
+    kept : (b m x k : ℕ) → somebody k ≡ better rank (somebody m) x → m < b → x < b → k < b
+    kept b m x k e l h = go (ltb (rank x) (rank m)) e
+      where
+        go : (t : Bool) → somebody k ≡ pick t (somebody x) (somebody m) → k < b
+        go true q = omega (arith, ap number q, h)
+        go false q = omega (arith, ap number q, l)
+
+    module _ {S : Type 0} (steps : S → Option ℕ → S → Type 0) (b : ℕ)
+        (takes : (m x : ℕ) → m < b → x < b → Takes g f (m, (x, tt))) where
+      -- after some turns from a number below b the closure is as it was, the number is below b, and so is what is left
+      along : (all xs : List ℕ) (s t : S) (p q : F × ℕ) → AlwaysYields steps (λ x. x) s all → AllBelow b all
+          → Yields steps s xs t → p.0 ≡ f → p.1 < b → FoldsTo {P = F × ℕ} (FoldTurn g) p xs q
+          → (q.0 ≡ f) × (q.1 < b) × ((more : List ℕ) × AlwaysYields steps (λ x. x) t more × AllBelow b more)
+      along all [] s t p q e i y a l c = (
+        ap (λ (w : F × ℕ). w.0) (sym c) ∙ a,
+        subst (λ (w : F × ℕ). w.1 < b) c l,
+        (all, subst (λ u. AlwaysYields steps (λ x. x) u all) y e, i),
+      )
+      along [] (x ∷ xs) s t p q e i y a l c = absurd (e x y.0 y.1)
+      along (z ∷ zs) (x ∷ xs) s t p q e i y a l c =
+          let n = e.1 x y.0 y.1 in
+          let d = turned p c.0 x a c.1 in
+          along zs xs y.0 t c.0 q n.1 i.1 y.2 d.0 (kept b p.1 x c.0.1 d.1 l (subst (λ w. w < b) (sym n.0) i.0)) c.2
+
+      -- the next one is below b
+      next_below : (all : List ℕ) (s t : S) (x : ℕ) → AlwaysYields steps (λ x. x) s all → AllBelow b all
+          → steps s (Some x) t → (x < b) × ((more : List ℕ) × AlwaysYields steps (λ x. x) t more × AllBelow b more)
+      next_below [] s t x e i h = absurd (e x t h)
+      next_below (z ∷ zs) s t x e i h =
+          let n = e.1 x t h in
+          (subst (λ w. w < b) (sym n.0) i.0, (zs, n.1, i.1))
+
+      pub callable : (all : List ℕ) (s : S) → YieldsList steps (λ x. x) s all → AllBelow b all
+          → AfterFirst steps s (λ x t. CallableInFold steps g t f x)
+      callable all s road i x t h =
+          let n = next_below all s t x road.runs i h in
+          record {
+            at = λ xs u q z w y c d.
+                let m = along n.1.0 xs t u (f, x) q n.1.1 n.1.2 y refl n.0 c in
+                let l = next_below m.2.0 u w z m.2.1 m.2.2 d in
+                subst (λ k. Takes g k (q.1, (z, tt))) (sym m.0) (takes q.1 z m.1 l.0);
+          }
 
     module _ {S : Type 0} {steps : S → Option ℕ → S → Type 0} {s : S} {all : List ℕ}
         (road : YieldsList steps (λ x. x) s all) where
-      -- the key may be asked of each item
-      pub callable : ((x k : ℕ) → k < length all → x ≡ get_or all k x → TakesAt g f x)
-          → CallableInMinByKey steps g nat_cmp s f
-      callable takes x t p =
-          let m = YieldsList-turn road [] s refl (Some x) t x refl p in (
-            takes x 0 m.0 m.1,
-            λ k h called. record {
-              at = λ xs u q z w y c d.
-                  let n = YieldsList-turn road (x ∷ xs) u (t, p, y) (Some z) w z refl d in
-                  subst (λ i. TakesAt g i z) (sym (stays xs ((h, k), x) q (so x k h called).0 c))
-                  (takes z (length (x ∷ xs)) n.0 n.1);
-            },
-          )
-
       drained : (xs : List ℕ) → Drains steps s xs → map (λ (x : ℕ). x) xs ≡ all
       drained xs d = items_from_drains xs (d.1.0, d.1.1, λ _. (d.0, d.1.2)) road
 
       -- and the result is the best of the list
-      pub least : (r : Option ℕ) → PicksMinByKey steps g nat_cmp s f r → picked r ≡ scan nobody all
+      pub least : (r : Option ℕ) → ReducesItems steps g s f r → picked r ≡ scan nobody all
       least None d = ap (scan nobody) (drained [] d)
       least (Some y) d =
-          let t = so d.0 d.2 d.3 d.6 in
-          folded d.1 ((d.3, d.2), d.0) (d.4, y) t.0 t.1 d.7
-          ∙ ap (scan nobody) (sym (map-id (d.0 ∷ d.1)) ∙ drained (d.0 ∷ d.1) d.5)
+          folded d.1 (f, d.0) (d.2, y) refl d.4
+          ∙ ap (scan nobody) (sym (map-id (d.0 ∷ d.1)) ∙ drained (d.0 ∷ d.1) d.3)
 
-pub has_place : (s : State) (words x : ℕ) (a : Area) → Sound s words → a ≡ tx_area s.regs → x < 0 + a.count
+pub has_place : (s : State) (words x : ℕ) (a : Area) → Sound s words → a ≡ tx_area s.regs → x < a.count
     → (buffer : ℕ) → buffer ≡ x → HasPlace a buffer words
 has_place s words x a h e l buffer q =
     record { room = rw e (tx_roomy s.regs words h.legal); within = omega (arith, l, q) }

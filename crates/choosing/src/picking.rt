@@ -1,5 +1,6 @@
 // The choice: the best candidate in arbitration.
 ghost use Rattle.std.specs.Prelude.{◌≡◌, ◌&&◌, ◌+◌, ◌≤◌, ◌<◌, ltb, eqb, length};
+ghost use Rattle.words.specs.Best.{somebody, better};
 ghost use Rattle.places.specs.Areas.{HasPlace};
 ghost use Rattle.engine.specs.Fitness.{Sound};
 ghost use Rattle.choosing.specs.Choosing.{is_candidate, choice};
@@ -43,7 +44,21 @@ fn rank_at(mem: &[u32], a: Area, buffer: u32) -> u32
     tx_header(mem[at.0 as usize], 0).frame.rank()
 }
 
+// A candidate against the best of the lower numbers: only a smaller rank is better.
+fn better_of(mem: &[u32], a: Area, best: u32, buffer: u32) -> u32
+    requires best { HasPlace a best (length mem.now) }
+    requires buffer { HasPlace a buffer (length mem.now) }
+    ensures { somebody result ≡ better (rank_in mem.now a) (somebody best) buffer }
+{
+    if rank_at(mem, a, buffer) < rank_at(mem, a, best) {
+        buffer
+    } else {
+        best
+    }
+}
+
 // The candidate of the smallest rank, and of several such the one of the lowest number.
+// Not `min_by_key`: which of two is kept would be std's rule alone, and no edit of ours could try it.
 #[tactic(auto, unfolding(crate::specs::Choosing::choice))]
 pub fn best_buffer(s: State, mem: &[u32]) -> Option<u32>
     requires { Sound s (length mem.now) }
@@ -52,5 +67,5 @@ pub fn best_buffer(s: State, mem: &[u32]) -> Option<u32>
     let a = tx_area(s.regs);
     (0..a.count)
         .filter(|b| is_candidate(s, *b))
-        .min_by_key(|b| rank_at(mem, a, *b))
+        .reduce(|best, b| better_of(mem, a, best, b))
 }

@@ -1,21 +1,35 @@
 -- What a read of an element gives, and its bytes as sent, from the parts that the code has.
 -- Assumes nothing.
 use Prim.Native.Nat.{ℕ, ◌+◌, ◌-◌, ◌*◌, ◌<◌, ◌≤◌, min}
-use mathlib.Core.Path.{◌≡◌, sym, ap, ◌∙◌}
-use mathlib.Core.Bool.{Bool}
+use Rattle.std.specs.Prelude.{◌≢◌}
+use mathlib.Core.Path.{◌≡◌, refl, sym, ap, ◌∙◌}
+use mathlib.Core.Bool.{Bool, true, false}
 use mathlib.Core.List.{List, ◌++◌, append_assoc}
-use lib.ListN.{length, get_or, take, drop, replicate, length-take, length-drop}
-use lib.Seq.{ext_get_or}
-use Rattle.std.proofs.lemmas.List.{get_or-replicate, length-replicate, drop-drop}
+use lib.ListN.{length, get_or, set, take, drop, length-take, length-drop}
+use Rattle.std.proofs.lemmas.List.{drop-drop, get_or-set_same, get_or-set_other}
 use native.Mathlib.Omega.{arith}
-use borrow.Author.Tests.{lt-ltb, le-ltb}
+use borrow.Author.Tests.{lt-ltb, eqb-true, eqb-false}
+use lib.Dec.{eqb}
 use Rattle.words.specs.Choice.{pick}
 use Rattle.words.specs.Runs.{run, splice}
 use Rattle.words.specs.Bytes.{byte_in}
-use Rattle.words.proofs.Runs.{run_alike, front_rest, length_run, get_or_run, splice_length}
+use Rattle.words.proofs.Runs.{run_alike, front_rest, length_run, splice_length}
 use Rattle.element.specs.Headers.{rx_header_in, headed}
 use Rattle.element.specs.Bytes.{length_of, read_count, rx_read, read_bytes, sent_byte, sent_from}
 use Rattle.element.specs.declared.RxHeader.{RxHeader}
+
+-- a list that has the values at its first i places, and one more
+pub one_more_at : (f : ℕ → ℕ) (l : List ℕ) (i v : ℕ) → i < length l → ((k : ℕ) → k < i → get_or l k 0 ≡ f k) → v ≡ f i
+    → (k : ℕ) → k < i + 1 → get_or (set l i v) k 0 ≡ f k
+one_more_at f l i v h at e k b = go (eqb k i) refl
+  where
+    go : (t : Bool) → eqb k i ≡ t → get_or (set l i v) k 0 ≡ f k
+    go true y =
+        let same : k ≡ i = eqb-true k i y in
+        ap (λ (j : ℕ). get_or (set l i v) j 0) same ∙ get_or-set_same l i v 0 h ∙ e ∙ ap f (sym same)
+    go false y =
+        let other : k ≢ i = eqb-false k i y in
+        get_or-set_other l i k v 0 other ∙ at k (omega (arith, b, other))
 
 module _ (mem : List ℕ) (at n : ℕ) where
   module _ (header : RxHeader) (len count : ℕ) (e : header ≡ headed rx_header_in mem at)
@@ -33,14 +47,10 @@ module _ (mem : List ℕ) (at n : ℕ) where
     unfolding read_bytes
     rx_bytes out last s = s ∙ rw counted
 
-  sent_past : (i : ℕ) → 4 * n ≤ i → 0xCC ≡ sent_byte mem at n i
-  unfolding sent_byte
-  sent_past i h = rw (le-ltb _ _ h)
-
-  -- the bytes that the element holds, as many as are wanted, and 0xCC in the places behind them
+  -- the bytes that the element holds, as many as are wanted, and those behind them
   module _ (count held : ℕ) (out held_out filled : List ℕ) (e : held ≡ min count (4 * n))
       (so : held_out ≡ splice out 0 (run (byte_in mem (at + 2)) 0 held))
-      (past : filled ≡ replicate (length (take (count - held) (drop held held_out))) 0xCC)
+      (past : filled ≡ run (λ i. sent_byte mem at n (held + i)) 0 (length (take (count - held) (drop held held_out))))
       (h : count ≤ length out) where
     abbrev behind : ℕ → ℕ
     behind i = sent_byte mem at n (held + i)
@@ -50,23 +60,11 @@ module _ (mem : List ℕ) (at n : ℕ) where
         let size : length (run (byte_in mem (at + 2)) 0 held) ≡ held = length_run (byte_in mem (at + 2)) 0 held in
         ap length so ∙ splice_length out 0 (run (byte_in mem (at + 2)) 0 held) (omega arith)
 
-    filled_is : filled ≡ replicate (count - held) 0xCC
-    filled_is =
-        past
-        ∙ ap (λ (k : ℕ). replicate k 0xCC) (simp (length-take, length-drop) (omega (arith, held_length)))
+    past_is : filled ≡ run behind 0 (count - held)
+    past_is = past ∙ ap (run behind 0) (simp (length-take, length-drop) (omega (arith, held_length)))
 
     past_length : length filled ≡ count - held
-    past_length = ap length filled_is ∙ length-replicate (count - held) 0xCC
-
-    past_is : filled ≡ run behind 0 (count - held)
-    past_is =
-        ext_get_or 0 filled (run behind 0 (count - held)) (past_length ∙ sym (length_run behind 0 (count - held)))
-        (λ i l.
-        let small : i < count - held = omega (arith, past_length) in
-        ap (λ (x : List ℕ). get_or x i 0) filled_is
-        ∙ get_or-replicate (count - held) i 0xCC 0 small
-        ∙ sent_past (held + (0 + i)) (omega arith)
-        ∙ sym (get_or_run behind 0 (count - held) i small))
+    past_length = ap length past_is ∙ length_run behind 0 (count - held)
 
     held_is : held_out ≡ splice out 0 (run (sent_byte mem at n) 0 held)
     unfolding sent_byte

@@ -1,11 +1,11 @@
 // Elements in the lent memory: stored, read, their bytes as sent.
-ghost use Rattle.std.specs.Prelude.{◌≡◌, ◌+◌, ◌≤◌, ◌<◌, length};
-ghost use Rattle.words.specs.Runs.{splice};
+ghost use Rattle.std.specs.Prelude.{◌≡◌, ◌+◌, ◌≤◌, ◌<◌, ◌^◌, length};
+ghost use Rattle.words.specs.Runs.{run, splice};
 ghost use Rattle.element.specs.Fitting.{InFields};
 ghost use Rattle.element.specs.Needs.{RxInFields, HasElement};
 ghost use Rattle.element.specs.Elements.{element, rx_element, tx_element, event_element};
 ghost use Rattle.element.specs.Headers.{tx_header_in, event_header_in, headed};
-ghost use Rattle.element.specs.Bytes.{rx_read, read_bytes, sent_from};
+ghost use Rattle.element.specs.Bytes.{rx_read, read_bytes, sent_byte, sent_from};
 
 use crate::{Arrival, Event, EventHeader, RxRead, TxHeader, pack, unpack};
 use words::WordAddress;
@@ -75,14 +75,42 @@ impl Element {
         }
     }
 
-    // Writes the first bytes as sent to the front of out: 0xCC past the data words.
+    // Byte i as sent: 0xCC past the data words.
+    #[tactic(auto, unfolding(crate::specs::Bytes::sent_byte, words::specs::Bytes::byte_in))]
+    fn sent_byte(self, mem: &[u32], i: usize) -> u8
+        requires { HasElement mem.now self.at.0 self.words }
+        ensures { result ≡ sent_byte mem.now self.at.0 self.words i }
+    {
+        let start = self.at.0 as usize;
+        if i < 4 * self.words {
+            let word = mem[start + 2 + i / 4];
+            return words::bytes::byte_of(word, i % 4);
+        }
+        0xCC
+    }
+
+    // Fills out with the bytes as sent from byte first on. By a test of each and not by `fill`: that is compiled to a
+    // call of memset, and the archive for C is to need nothing else to be linked (tests/archive).
+    #[tactic(auto, using(words::proofs::Runs::filled))]
+    fn fill_sent(self, mem: &[u32], first: usize, out: &mut [u8])
+        requires element { HasElement mem.now self.at.0 self.words }
+        requires places { first + length out.old < 2 ^ 64 }
+        ensures { out.new
+            ≡ run (λ i. sent_byte mem.now self.at.0 self.words (first + i)) 0 (length out.old) }
+    {
+        for (i, byte) in out.iter_mut().enumerate() {
+            *byte = self.sent_byte(mem, first + i);
+        }
+    }
+
+    // Writes the first bytes as sent to the front of out.
     pub fn write_sent(self, mem: &[u32], count: usize, out: &mut [u8])
         requires { HasElement mem.now self.at.0 self.words × (count ≤ length out.old) }
         ensures { out.new ≡ splice out.old 0 (sent_from mem.now self.at.0 self.words count) }
     {
         let held = count.min(4 * self.words);
         words::bytes::load(mem, WordAddress(self.at.0 + 2), held, out);
-        out[held..count].fill(0xCC);
+        self.fill_sent(mem, held, &mut out[held..count]);
     }
 }
 

@@ -2,12 +2,12 @@
 -- Assumes nothing.
 use Rattle.std.proofs.Common.{Result, Ok, Err}
 use Prim.Native.Nat.{ℕ}
-use mathlib.Core.Path.{◌≡◌, refl, sym, ap, ◌∙◌}
+use mathlib.Core.Path.{◌≡◌, refl, sym, ap, ap₂, ◌∙◌}
 use lib.Dec.{eqb}
 use Rattle.words.specs.Choice.{pick}
 use Rattle.shape.specs.Calls.{Says, refuses, answers}
 use Rattle.engine.specs.Answers.{number_of, saying, replied, left}
-use Rattle.engine.specs.Promises.{OneAnswer, OneReply}
+use Rattle.engine.specs.Promises.{OneAnswer, OneReply, OneLeft}
 use Rattle.engine.specs.declared.refusals.Refusal.{Refusal}
 use Rattle.engine.specs.declared.refusals.Refusal.TheVariants.{Unfit, Malformed, FdOff, NoSuch, AlreadyPending}
 use Rattle.engine.specs.declared.refusals.Refusal.TheVariants.{NoneFree, InSharedFifo, NotPending, NotTheChoice}
@@ -63,3 +63,6 @@ made_of (refuses n) a = Err (refusal_of n.number)
 pub made_back : {A : Type 0} (old : A) (r : Result A Refusal) → made_of (replied r) (left (λ a. a) old r) ≡ r
 made_back old (Ok a) = refl
 made_back old (Err n) = ap Err (refusal_back n)
+
+pub one_left : OneLeft
+one_left A old a b e l = sym (made_back old a) ∙ ap₂ made_of e l ∙ made_back old b

@@ -1,7 +1,7 @@
 -- What is promised of the engine: statements only.
 use Rattle.std.specs.Prelude.{ℕ, Result, ◌≡◌, true, false, ◌↔◌}
 use Rattle.layout.specs.Legal.{WrongMemory}
-use Rattle.engine.specs.Answers.{saying, replied}
+use Rattle.engine.specs.Answers.{saying, replied, left}
 use Rattle.engine.specs.Fitness.{unfit, Sound, FlagsSound}
 use Rattle.engine.specs.States.{never_started}
 use Rattle.engine.specs.declared.refusals.Refusal.{Refusal}
@@ -26,3 +26,9 @@ OneAnswer = (A : Type 0) (a b : Result A Refusal) → saying (λ x. x) a ≡ say
 
 abbrev pub OneReply : Type 0
 OneReply = (a b : Result (Unit {0}) Refusal) → replied a ≡ replied b → a ≡ b
+
+-- of a call that has nothing to tell, the reply and what it leaves settle its answer
+abbrev pub OneLeft : Type 1
+OneLeft =
+    (A : Type 0) (old : A) (a b : Result A Refusal) → replied a ≡ replied b
+    → left (λ x. x) old a ≡ left (λ x. x) old b → a ≡ b

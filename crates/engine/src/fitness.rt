@@ -11,6 +11,7 @@ use crate::refusals::Refusal;
 use crate::state::{Record, State};
 use layout::check::check;
 use registers::Registers;
+use ring::Circle;
 use words::bits;
 
 // A bit at place n or above is set.
@@ -49,13 +50,15 @@ fn bits_unfit(s: State) -> bool
         || is_past(s.newdata, s.regs.buffers)
 }
 
-// Whether place p's pending bit is other than the ring says.
+// Whether place p's pending bit is other than the ring says. The ring is found once for all places.
 #[tactic(auto, using(crate::proofs::Unfitness::unlike))]
-fn differs_at(s: State, p: u32) -> bool
-    requires { SharedFits s p }
+fn differs_at(s: State, circle: Circle, p: u32) -> bool
+    requires fits { SharedFits s p }
+    requires ring { circle.ring ≡ s.shared }
+    requires size { circle.size ≡ shared_ring_size s.regs }
     ensures { result ≡ differs s p }
 {
-    let held = s.shared_circle().is_held(p);
+    let held = circle.is_held(p);
     let pending = bits::test(s.pending, s.regs.txbc.dedicated() + p);
     held != pending
 }
@@ -64,7 +67,9 @@ fn shared_unfit(s: State) -> bool
     requires { SharedCan s }
     ensures { result ≡ shared_unfit s }
 {
-    (0..shared_ring_size(s.regs)).any(|p| differs_at(s, p))
+    let circle = s.shared_circle();
+    // Not `any`, which stops at the first that differs: tried and slower, by a fifth of a call on a box with 32 shared.
+    (0..circle.size).fold(false, |unlike, p| unlike | differs_at(s, circle, p))
 }
 
 fn flags_unfit(r: Record) -> bool

@@ -40,3 +40,7 @@ pub length_most : (rtr fdf : Bool) (dlc : ℕ) → data_length rtr fdf dlc ≤ 6
 length_most true fdf dlc = omega (arith, length_remote true fdf dlc refl)
 length_most false true dlc = omega (arith, length_fd false true dlc refl refl, fd_most dlc)
 length_most false false dlc = omega (arith, length_classic false false dlc refl refl)
+
+pub classic_most : (rtr : Bool) (dlc : ℕ) → data_length rtr false dlc ≤ 8
+classic_most true dlc = omega (arith, length_remote true false dlc refl)
+classic_most false dlc = omega (arith, length_classic false false dlc refl refl)

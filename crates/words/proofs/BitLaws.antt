@@ -5,6 +5,9 @@ use Prim.Native.Nat.{ℕ, zero, suc, ◌+◌, ◌-◌, ◌^◌, ◌/◌, ◌%◌
 use native.Mathlib.Nat.{max-zero, pow-suc, not-suc-le-zero, le_of_suc-le-suc}
 use native.Mathlib.Nat.{div-lt_iff_lt-mul, div-le_self}
 use native.Mathlib.Omega.{arith}
+use mathlib.Core.Bool.{Bool, true, false}
+use borrow.Author.Tests.{ltb-true, ltb-false}
+use lib.Dec.{ltb}
 use lib.Bits.{and_le_l, or_lt}
 use lib.Pow.{pow-lt, pow_pos, shr-shr}
 use lib.Count.{count_trailing_zeros, under, trailing_le}
@@ -82,6 +85,18 @@ lowest k w h = record {
       let z = count_trailing_zeros k ((2 ^ k - 1) - w) in
       omega (arith, bit_lt w z, bit_not k w z h l, trailing_at k ((2 ^ k - 1) - w) l);
 }
+
+-- a word has one lowest clear bit
+lowest_below : (k w n m : ℕ) → LowestClear k w n → LowestClear k w m → n < m → ⊥
+lowest_below k w n m a b h = omega (arith, b.below n h, a.clear (omega (arith, b.within)))
+
+pub lowest_one : (k w n m : ℕ) → LowestClear k w n → LowestClear k w m → n ≡ m
+lowest_one k w n m a b = go (ltb n m) refl (ltb m n) refl
+  where
+    go : (s : Bool) → ltb n m ≡ s → (t : Bool) → ltb m n ≡ t → n ≡ m
+    go true e t f = absurd (lowest_below k w n m a b (ltb-true n m e))
+    go false e true f = absurd (lowest_below k w m n b a (ltb-true m n f))
+    go false e false f = omega (arith, ltb-false n m e, ltb-false m n f)
 
 -- ---- cleared bits
 
